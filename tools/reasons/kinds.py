@@ -1,5 +1,9 @@
 """What kind of file some bytes are, by how they begin."""
 
+import base64
+import binascii
+import re
+
 STARTS = [
     (b"%PDF-", "a PDF file"), (b"%!", "a PostScript file"), (b"\x04%!", "a PostScript file"), (b"\x89PNG", "a PNG picture"),
     (b"\xff\xd8\xff", "a JPEG picture"), (b"GIF8", "a GIF picture"), (b"II*\0", "a TIFF picture"), (b"MM\0*", "a TIFF picture"),
@@ -8,8 +12,13 @@ STARTS = [
     (b"P3", "a colour picture (P3)"), (b"P4", "a P4 picture"), (b"P5", "a grey picture (P5)"), (b"P6", "a colour picture (P6)"),
     (b"\xff\xfe", "a UTF-16 text"), (b"\xfe\xff", "a UTF-16 text"), (b"<?xml", "an XML file"), (b"<!DOCTYPE html", "an HTML file"),
     (b"<html", "an HTML file"), (b"\x7fELF", "a program"), (b"BM", "a BMP picture"), (b"@PJL", "a print stream"),
+    (b"RaS2", "a raster of PWG or CUPS"), (b"2SaR", "a raster of PWG or CUPS"), (b"RaS3", "a raster of CUPS"), (b"3SaR", "a raster of CUPS"),
+    (b"UNIRAST\0", "a raster of AirPrint (URF)"), (b"IN;", "an HP-GL drawing"), (b"PG;", "an HP-GL drawing"), (b"\x1b.(", "an HP-GL drawing"),
+    (b"\x1b@", "an ESC/P stream, as for Epson's printers"), (b"\0\0\0\x1b\x01@EJL", "an ESC/P stream, as for Epson's printers"),
     (b"\x1b", "a print stream"),
 ]
+IN_BASE_64 = " in base64, as a mail has it"
+BASE_64 = re.compile(rb"[A-Za-z0-9+/]{40,}[\r\n]")
 
 
 def kind_of(data):
@@ -20,4 +29,16 @@ def kind_of(data):
     text = data.lstrip(b" \t\r\n")
     if text[:1] == b"{" and b'"' in text[:200]:
         return "a JSON text"
-    return None
+    return base_64(data)
+
+
+def base_64(data):
+    """A file in base64, as a mail has it, and what the first line of it is."""
+    if (line := BASE_64.match(data)) is None:
+        return None
+    try:
+        begins = base64.b64decode(line[0].strip()[:len(line[0].strip()) // 4 * 4], validate=True)
+    except binascii.Error:
+        return None
+    inner = next((name for start, name in STARTS if begins.startswith(start)), None)
+    return inner + IN_BASE_64 if inner else None

@@ -4,6 +4,7 @@ The number is that of the fault that the program tells, 2 where it refuses the w
 or something else than was meant. What is said first has to have each of the texts. A file of None is a folder.
 """
 
+import base64
 from typing import NamedTuple
 
 from model import defaults, table
@@ -11,6 +12,8 @@ from model import defaults, table
 TICKET = b'{"Amount":1,"JobID":"J","NPage":1,"Type":"DigitalPrinting","Version":"1.5"}'
 DOT = b"P4 1 1\n\x80"
 UEL = b"\x1b%-12345X"
+SENT = b"\x1bE\x1b*t300R\x1b*r0A" + b"".join(   # rows that have each byte
+    b"\x1b*b64W" + bytes((31 * row + 7 * place) % 256 for place in range(64)) for row in range(150)) + b"\x1b*rC\x1bE"
 LEFT = {f".press-{number}.part": None for number in range(1, 1001)}   # folders, which no run takes over
 
 
@@ -84,6 +87,7 @@ FILES = [
     Mistake("asm page.asm page.asm", 115, ("OUT page.asm is an input", "would replace"), {"page.asm": b"uel\n"}),
     Mistake("write t.json a.pbm a.pbm", 614, ("OUT a.pbm is an input",), {"t.json": TICKET, "a.pbm": DOT}),
     Mistake("print page-2.pcl page-%d.pcl", 301, ("has a side that is called page-2.pcl", "another template"), {"page-2.pcl": b"\x0c"}),
+    Mistake("print none-2.pcl none-%d.pcl", 304, ("none-2.pcl is not there",)),
     Mistake("asm page.asm -", 2, ("OUT is -", "/dev/stdout"), {"page.asm": b"uel\n"}),
     Mistake("asm page.asm /dev/full", 115, ("OUT /dev/full", "disk that is full"), {"page.asm": b"uel\n"}),
     Mistake("write t.json /dev/full a.pbm", 614, ("OUT /dev/full", "disk that is full"), {"t.json": TICKET, "a.pbm": DOT}),
@@ -139,6 +143,16 @@ IMAGES = [
 STREAMS = [
     printed(b"", "is empty"),
     printed(b"%PDF-1.7\n", "is a PDF file; the press reads PCL and PJL"),
+    printed(b"\x1b@\x1bP", "is an ESC/P stream"),
+    printed(b"RaS2PwgRaster\0", "is a raster of PWG or CUPS"),
+    printed(b"IN;SP1;PD100,100;", "is an HP-GL drawing"),
+    printed(base64.encodebytes(b"\x1bE" + 60 * b"\x0c"), "is a print stream in base64"),
+    printed(SENT.replace(b"\n", b"\r\n"), "was damaged on its way: each line feed (0A) became CR LF (0D 0A), first at byte"),
+    printed(SENT.decode("latin-1").encode(), "was damaged on its way: each byte above 127 became two"),
+    printed(SENT.decode("utf-8", "replace").encode(), "was damaged on its way: bytes above 127 were replaced by EF BF BD"),
+    printed(SENT.replace(b"\0", b""), "was damaged on its way: each NUL (00) was taken out"),
+    printed(SENT.replace(b"\r", b""), "was damaged on its way: each CR (0D) was taken out"),
+    printed(bytes(byte & 127 for byte in SENT), "was damaged on its way: none of the 9,600 bytes of its rows is above 127"),
     printed(UEL + b"@PJL ENTER LANGUAGE=POSTSCRIPT\n%!PS\nshowpage\n" + UEL, "prints no sheet"),
     printed(b"Dear Sir\x0c", "prints 1 side, and it is blank"),
     printed(b"\x1b%0BIN;SP1;PD100,100;\x1b%0A\x0c", "blank"),

@@ -2,11 +2,12 @@
 
 from seen import happenings, listing, program
 
-from . import kinds
+from . import damage, kinds
 from .finding import Finding, counted
 from .untraced import AS_PCL, Group, Judge
 
 READS = "the press reads PCL and PJL"
+DECODE = "Decode it first: base64 -d"
 WHITE = ("has rows there, and none of their dots is black", "Look at what made it: the picture is white, or cut elsewhere")
 UNMARKED = ("has nothing there that marks: no row, no rectangle, no text", "Look at what made it")
 BLANK_FRONT = ("asks for a blank front by ESC&a2G", "Send a page for the front, or leave ESC&a2G out")
@@ -19,7 +20,7 @@ def looked_at(shown, stream, front=b"", chosen=program.PROGRAM):
         return [Finding(None, f"{shown} is empty, and an empty stream prints no sheet", "Look at what made it")], []
     kind = kinds.kind_of(stream)
     if kind and kind != "a print stream":
-        return [Finding(None, f"{shown} is {kind}; {READS}", AS_PCL)], []
+        return [Finding(None, f"{shown} is {kind}; {READS}", DECODE if kind.endswith(kinds.IN_BASE_64) else AS_PCL)], []
     run = happenings.Run(stream, front=front, together=True, chosen=chosen)
     judge, sides = Judge(run), listing.sides(run)
     met = judge.groups(run.happenings)
@@ -28,7 +29,8 @@ def looked_at(shown, stream, front=b"", chosen=program.PROGRAM):
     used = {(group.reason, group.key) for _, _, _, group in causes if group}
     found += [Finding(None, f"{shown} {cause}", group.advised(judge), group.reason.harmless)
               for group in met if (group.reason, group.key) not in used and (cause := group.told(judge))]
-    return found + list(still_open(shown, run)), sides
+    damaged = damage.found(shown, stream)
+    return [*filter(None, [damaged]), *found, *still_open(shown, run)], sides
 
 
 def blanks(judge, met, sides):

@@ -1,0 +1,99 @@
+"""What a stream suffered on its way: its rows are read by their lengths, and do not end where the next command begins.
+
+A row transfer says how many bytes it has. What a conversion of texts puts in or takes away moves all that stands behind it, so a command is read
+as a row, and rows as text. Each kind of damage is tried: it is named where the stream without it has whole rows again, or, where what was taken
+away cannot be put back, where the next row begins within each wrong one, and no row has one kind of byte.
+"""
+
+import re
+from typing import NamedTuple
+
+from .finding import Finding, counted
+
+TRANSFER = re.compile(rb"\x1b\*b(?:[0-9]+[a-z])*([0-9]{1,5})W")
+BEHIND_A_ROW = (b"\x1b", b"\x0c", b"\r", b"\n", b"")   # what a driver puts behind a row, and the end
+NEXT = b"\x1b*b"
+LEAST_WRONG = 2                         # rows
+MENDS = 10                              # what is tried leaves at most one wrong row for so many
+LEAST_SEEN = 4096                       # bytes of rows, of which none is above 127
+LEAST_KINDS = 32                        # of these bytes
+HIGH = re.compile(rb"[\x80-\xff]")
+REPLACED = "\ufffd".encode()
+ADVICE = "Send it as it is: by a copy in binary mode, lp -o raw, or a file that no program for texts has opened"
+
+
+class Rows(NamedTuple):
+    """What the row transfers of a stream are like."""
+    count: int
+    wrong: int       # that do not end where a command begins
+    early: int       # of these, how many have the next transfer begin within their data
+    data: bytes
+
+    @classmethod
+    def of(cls, stream):
+        count = wrong = early = place = 0
+        data = []
+        while found := TRANSFER.search(stream, place):
+            end = found.end() + int(found[1])
+            row = stream[found.end():end]
+            count, place = count + 1, found.end()
+            if end > len(stream) or stream[end:end + 1] not in BEHIND_A_ROW:
+                wrong, early = wrong + 1, early + (0 <= stream.find(NEXT, found.end(), end + len(NEXT)) < end)
+            else:
+                place = end
+            data.append(row)
+        return cls(count, wrong, early, b"".join(data))
+
+
+def found(shown, stream):
+    """The finding on a stream that was damaged, or None."""
+    rows = Rows.of(stream)
+    if told := undone(stream, rows) or lost(rows) or seven_bits(rows):
+        sentence = f"{shown} was damaged on its way: {told}"
+        wrong = f", so {rows.wrong:,} of {counted(rows.count, 'row')} end elsewhere than they say" if rows.wrong else ""
+        return Finding(None, sentence + wrong, ADVICE)
+    return None
+
+
+def undone(stream, rows):
+    """What was put in, where the stream without it has whole rows; or None."""
+    if rows.wrong < LEAST_WRONG:
+        return None
+    if (place := stream.find(REPLACED)) >= 0:
+        return f"bytes above 127 were replaced by EF BF BD, first at byte {place}"
+    for name, first, mended in ((LINE_FEEDS, stream.find(b"\r\n"), stream.replace(b"\r\n", b"\n")), (AS_TEXT, first_high(stream), as_latin(stream))):
+        if first >= 0 and mended is not None and Rows.of(mended).wrong * MENDS <= rows.wrong:
+            return f"{name}, first at byte {first}"
+    return None
+
+
+LINE_FEEDS = "each line feed (0A) became CR LF (0D 0A)"
+AS_TEXT = "each byte above 127 became two, as in UTF-8"
+
+
+def first_high(stream):
+    high = HIGH.search(stream)
+    return high.start() if high else -1
+
+
+def as_latin(stream):
+    """The bytes whose characters UTF-8 spells, or None where it does not."""
+    try:
+        return stream.decode("utf-8").encode("latin-1")
+    except UnicodeError:
+        return None
+
+
+def lost(rows):
+    """What was taken away: the next row begins within each wrong one, but for one of so many, and one kind of byte stands in no row."""
+    if rows.wrong < LEAST_WRONG or (rows.wrong - rows.early) * MENDS > rows.wrong or len(rows.data) < LEAST_SEEN:
+        return None
+    missing = [name for byte, name in ((0x00, "NUL (00)"), (0x0D, "CR (0D)")) if byte not in rows.data]
+    return f"each {missing[0]} was taken out of its rows" if missing else None
+
+
+def seven_bits(rows):
+    """Rows of many kinds of bytes, and none above 127."""
+    if len(rows.data) < LEAST_SEEN or len(set(rows.data)) < LEAST_KINDS or HIGH.search(rows.data):
+        return None
+    return f"none of the {len(rows.data):,} bytes of its rows is above 127, as where the eighth bit is dropped"
