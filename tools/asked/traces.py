@@ -90,6 +90,12 @@ REPLIES = asked(
     (23, 5, "par &fS", {"view": {"cursor": {"pushed": [[0, 900]]}}}),
     (28, 0, "uel", {"view": {"cursor": {"pushed": []}}}),
 )
+# A terminal takes 7F and 80 to 9F as controls: these are escaped, as JSON escapes those below 20. A0, C2 and FF are characters, C2 also before 80.
+ECHO = b"@PJL ECHO \xa0~\x07\x7f\x80\x9f\xc2\x80\xff\n"
+CONTROLS = f"trace {named(ECHO)}", 0, lines_of(
+    (0, 20, "pjl", {"reply": "@PJL ECHO \u00a0~CONTROLS\r\n\f"}),
+    (20, 0, "uel", {}),
+).replace("CONTROLS", "\\u0007\\u007f\\u0080\\u009f\u00c2\\u0080\u00ff"), b""
 EMPTY = asked(b"", (0, 0, "uel", {}))
 
 # Fields of patterns and macros, each told where it changes. A cross-hatch of ID 5 stays the current pattern when the ID is another.
@@ -222,4 +228,4 @@ REFUSED = [
     ("trace /", 1, "fault 304\n", b""),
 ]
 
-ROWS = [EMPTY, BOX, MARKS, BODY, REPLIES, DRAWING, LINES, ROWS_OF_RASTER, MEDIA, VARIABLES_SET, COUNTS, *TURNED, SET, *REFUSED]
+ROWS = [EMPTY, BOX, MARKS, BODY, REPLIES, CONTROLS, DRAWING, LINES, ROWS_OF_RASTER, MEDIA, VARIABLES_SET, COUNTS, *TURNED, SET, *REFUSED]

@@ -5,6 +5,13 @@ FEED = b"\x0c"
 USAGE = ("usage: press print IN OUT, press print --list IN, press asm IN OUT, press page IN K OUT or press write TICKET OUT [IMG...], "
          "where OUT is a file and not - and K is a number, press debug IN, where IN is a file and not -, or press press [--engines N], where N is a number\n")
 
+NO_DEFAULT = ("error: --default {} is no NAME=VALUE of the job language, as RESOLUTION=600: COPIES=1 to 999, PAPER=LETTER, LEGAL, A4, EXECUTIVE, LEDGER or A3, "
+              "ORIENTATION=PORTRAIT or LANDSCAPE, DUPLEX=OFF or ON, BINDING=LONGEDGE or SHORTEDGE, RESOLUTION=300 or 600\n")
+MORE = "\n\nFor more information, try '--help'.\n"
+UNKNOWN = "error: unrecognized subcommand '{}'\n\nUsage: press [COMMAND]" + MORE
+UNEXPECTED = "error: unexpected argument '{}' found\n\nUsage: press print [OPTIONS] <IN> [OUT]" + MORE
+LONG = "x" * 63  # with one character more the longest that is told
+
 # Words, status, what is printed on standard output and then on standard error (bytes: on standard output alone; None: something,
 # without an end to compare), and standard input.
 ROWS = [
@@ -13,6 +20,8 @@ ROWS = [
     ("print - a.pbm --list", 0, PAGE, FEED),
     ("print --list no/such", 1, "fault 304\n", FEED),
     ("print no/such a.pbm", 1, "fault 304\n", FEED),
+    ("print none-1.pbm none-%d.pbm", 1, "fault 304\n", FEED),
+    ("print no/such-1 no/such-%d", 1, "fault 304\n", FEED),
     ("print / a%d.pbm", 1, "fault 304\n", FEED),
     ("print - a.pbm", 1, "fault 121\n", FEED),
     ("print / a.pbm", 1, "fault 121\n", FEED),
@@ -102,5 +111,20 @@ ROWS = [
     ("debug", 2, None, FEED),
     ("debug a b", 2, None, FEED),
     ("debug --list a", 2, None, FEED),
+    # words with control characters
+    ("\x1b[2J", 2, UNKNOWN.format("\\u001b[2J"), FEED),
+    ("print - a%d \x1b[31mred", 2, UNEXPECTED.format("\\u001b[31mred"), FEED),
+    ("print - a%d \x7f\x80\x9b31m", 2, UNEXPECTED.format("\\u007f\\u0080\\u009b31m"), FEED),
+    ("print - a%d \x01\x07\x08\xe9\"\\", 2, UNEXPECTED.format("\\u0001\\u0007\\b\xe9\\\"\\\\"), FEED),
+    ("print - a%d x{lf}fault", 2, UNEXPECTED.format("x\\nfault"), FEED),
+    (f"print \x1b \" {LONG}xx", 2, UNEXPECTED.format(f"{LONG}xx"), FEED),
+    ("print a{lf}b c d", 2, UNEXPECTED.format("d"), FEED),
+    (f"print - a%d \x1b{LONG}", 2, UNEXPECTED.format(f"\\u001b{LONG}"), FEED),
+    (f"print - a%d \x1bx{LONG}", 2, UNEXPECTED.format(f"\\u001bx{LONG[:-1]}..."), FEED),
+    ("print --list a{lf}b", 1, "fault 304\n", FEED),
+    ("print --list --default COPIES=\x1b[2J -", 2, NO_DEFAULT.format("COPIES=\\u001b[2J"), FEED),
+    ("trace --default \x7f\x9f{lf} -", 2, NO_DEFAULT.format("\\u007f\\u009f\\n"), FEED),
+    ("page - \x1b out", 2, USAGE, FEED),
+    ("press --engines \x1b", 2, USAGE, FEED),
     ("step a", 2, None, FEED),
 ]

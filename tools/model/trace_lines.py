@@ -15,6 +15,7 @@ from .table import BUILT_ROWS, PAGE_SIZES
 SIZE_CODES = {name: number for number, name in PAGE_SIZES.items()}
 PAPER_CODES = {name.upper(): number for name, number in SIZE_CODES.items()}
 BINDINGS = {"LONGEDGE": 1, "SHORTEDGE": 2}
+CONTROLS = {number: "\\u%04x" % number for number in range(0x7F, 0xA0)}  # of a terminal, which JSON leaves as they are
 ORIENTATIONS = {b"PORTRAIT": pages.PORTRAIT, b"LANDSCAPE": pages.LANDSCAPE}
 
 
@@ -215,8 +216,8 @@ def opened(stream, rows=BUILT_ROWS):
 
 
 def text_of(told):
-    """A line: compact JSON, its keys in byte order."""
-    return (json.dumps(told, ensure_ascii=False, separators=(",", ":"), sort_keys=True) + "\n").encode()
+    """A line: compact JSON, its keys in byte order, and no control character in it."""
+    return (json.dumps(told, ensure_ascii=False, separators=(",", ":"), sort_keys=True).translate(CONTROLS) + "\n").encode()
 
 
 def lines(stream, rows=BUILT_ROWS):

@@ -2,6 +2,8 @@
 
 import json
 
+from .printable import printable
+
 
 class Page:
     """The dots of a page: a row is bytes, the most significant bit left, 1 black. Rows are replaced, and never written into."""
@@ -81,8 +83,8 @@ class Comparison:
             return None
         self.catch_up()
         ours, theirs = json.loads(our), json.loads(their)
-        if json.dumps(theirs, ensure_ascii=False, separators=(",", ":"), sort_keys=True).encode() + b"\n" != their:
-            return "the program's line is no compact JSON with its keys in byte order"
+        if printable(json.dumps(theirs, ensure_ascii=False, separators=(",", ":"), sort_keys=True)).encode() + b"\n" != their:
+            return "the program's line is no compact JSON with its keys in byte order, or has a control character"
         if without_page(ours) != without_page(theirs):
             return "fields differ"
         if ("page" in ours, ours.get("page") is None) != ("page" in theirs, theirs.get("page") is None):

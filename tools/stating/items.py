@@ -102,6 +102,7 @@ def counts(root):
 
 
 KINDS = (clauses, tests, edits, gate, told)
+OF_A_CRATE = ("clause", "test", "edit")   # the kinds whose names begin with the crate
 
 
 def every(root):
