@@ -1,17 +1,16 @@
 -- Pieces of a stream, and the items of its trace with their places.
-use Rattle.std.proofs.Common.{◌≡◌, ◌∙◌, ◌+◌, ℕ, List, [], ◌∷◌, ◌++◌, length, map, refl, sym, ap, subst, arith}
+use Rattle.std.proofs.Common.{◌≡◌, ◌∙◌, ◌+◌, ℕ, List, [], ◌∷◌, ◌++◌, length, refl, sym, ap, subst, inl, arith}
 use Rattle.std.proofs.lemmas.List.{append_assoc, append-nil, map-append, length-append}
-use Rattle.press_cmd.specs.Token.{Token}
 use Rattle.press_cmd.specs.ParserState.{ParserState}
+use Rattle.press_cmd.specs.Grammar.{Head}
+use Rattle.press_cmd.specs.Split.{Steps}
+use Rattle.press_cmd.proofs.Heads.{head-more}
 use Rattle.press_engine.specs.declared.machine.Machine.{Machine}
 use Rattle.press_engine.specs.Machine.{StepResult, macro_levels}
 use Rattle.press_engine.specs.Trace.{last_machine, trace_at, trace_each, trace}
 use Rattle.press_engine.proofs.TraceLaws.{last_machine-append}
 use Rattle.press_trace.specs.declared.place.Place.{Place}
-use Rattle.press_trace.specs.Places.{Piece, Placed, Opens, ArePrefix, placed_at, placed_from, from_on, machine_behind, machine_after, runs_of}
-
-abbrev pub commands_of : List Piece → List Token
-commands_of pieces = map (λ (piece : Piece). piece.command) pieces
+use Rattle.press_trace.specs.Places.{Piece, Placed, Opens, ArePrefix, AreWhole, commands_of, placed_at, placed_from, from_on, machine_behind, machine_after, runs_of}
 
 -- how many bytes the pieces have
 abbrev pub bytes_in : List Piece → ℕ
@@ -29,6 +28,43 @@ prefix-then from bytes [] mode held piece left next (same, are) cut opens =
     (left, next, are ∙ cut, subst P (sym same) opens, (refl, refl))
 prefix-then from bytes (first ∷ pieces) mode held piece left next (behind, between, cut_first, opens_first, others) cut opens =
     (behind, between, cut_first, opens_first, prefix-then between behind pieces mode held piece left next others cut opens)
+
+-- ---- pieces that are whole, before the end
+
+pub whole-prefix : (from : ParserState) (bytes : List ℕ) (pieces : List Piece) (mode : ParserState) (left : List ℕ)
+    → AreWhole from bytes pieces mode left → ArePrefix from bytes pieces mode left
+whole-prefix from bytes [] mode left are = are
+whole-prefix from bytes (piece ∷ pieces) mode left (behind, next, cut, head, others) =
+    (behind, next, cut, inl head, whole-prefix next behind pieces mode left others)
+
+-- their commands are those of the split so far
+pub whole-steps : (from : ParserState) (bytes : List ℕ) (pieces : List Piece) (mode : ParserState) (left : List ℕ)
+    → AreWhole from bytes pieces mode left → Steps from bytes (commands_of pieces) mode left
+whole-steps from bytes [] mode left are = are
+whole-steps from bytes (piece ∷ pieces) mode left (behind, next, cut, head, others) =
+    (piece.bytes, behind, next, cut, head, whole-steps next behind pieces mode left others)
+
+-- whatever comes behind them
+pub whole-more : (from : ParserState) (bytes more : List ℕ) (pieces : List Piece) (mode : ParserState) (left : List ℕ)
+    → AreWhole from bytes pieces mode left → AreWhole from (bytes ++ more) pieces mode (left ++ more)
+whole-more from bytes more [] mode left (same, are) = (same, ap (λ (all : List ℕ). all ++ more) are)
+whole-more from bytes more (piece ∷ pieces) mode left (behind, next, cut, head, others) = (
+  behind ++ more,
+  next,
+  ap (λ (all : List ℕ). all ++ more) cut ∙ append_assoc piece.bytes behind more,
+  head-more from piece.bytes behind more piece.command next head,
+  whole-more next behind more pieces mode left others,
+)
+
+pub whole-then : (from : ParserState) (bytes : List ℕ) (pieces : List Piece) (mode : ParserState) (held : List ℕ) (piece : Piece)
+    (left : List ℕ) (next : ParserState)
+    → AreWhole from bytes pieces mode held → held ≡ piece.bytes ++ left → Head mode piece.bytes left piece.command next
+    → AreWhole from bytes (pieces ++ piece ∷ []) next left
+whole-then from bytes [] mode held piece left next (same, are) cut head =
+    let P : ParserState → Type 0 = λ m. Head m piece.bytes left piece.command next in
+    (left, next, are ∙ cut, subst P (sym same) head, (refl, refl))
+whole-then from bytes (first ∷ pieces) mode held piece left next (behind, between, cut_first, head_first, others) cut head =
+    (behind, between, cut_first, head_first, whole-then between behind pieces mode held piece left next others cut head)
 
 -- the pieces and what is left are all the bytes
 pub prefix-length : (from : ParserState) (bytes : List ℕ) (pieces : List Piece) (mode : ParserState) (left : List ℕ)

@@ -1,4 +1,4 @@
--- Where a stream stands that is told step by step: behind some items of its trace, with their places.
+-- Where a stream stands that is traced as its pieces come.
 use Rattle.std.proofs.Common.{◌≡◌, ◌∙◌, ◌⊎◌, ◌+◌, ◌-◌, ℕ, List, [], ◌∷◌, ◌++◌, length, Bool, true, false, cond, Option, Some, None, IsSome, is_some, refl, sym, ap, subst, inl, inr, arith}
 use Rattle.std.proofs.lemmas.Bool.{true≢false}
 use Rattle.std.proofs.lemmas.List.{append_assoc, append-nil, length-append}
@@ -9,6 +9,7 @@ use Rattle.press_cmd.specs.Split.{ClosedFrom, NoHead, closing}
 use Rattle.press_cmd.proofs.Splits.{some_split, nothing_closed}
 use Rattle.press_scan.specs.Gives.{ClosesAs}
 use Rattle.press_scan.specs.ScannerState.{ScannerState}
+use Rattle.press_scan.proofs.ReachedLaws.{end_reaches}
 use Rattle.press_engine.specs.declared.activation.Activation.{Activation}
 use Rattle.press_engine.specs.declared.machine.Machine.{Machine}
 use Rattle.press_engine.specs.Machine.{StepResult, power_on, macro_levels}
@@ -16,39 +17,19 @@ use Rattle.press_engine.specs.Stack.{continuation}
 use Rattle.press_engine.specs.Trace.{last_machine, trace_at, trace_each, trace}
 use Rattle.press_engine.proofs.TraceLaws.{last_machine-append, trace_each-append}
 use Rattle.press_stream.specs.Meaning.{left, with_exit}
-use Rattle.press_stream.specs.State.{JobState, IsOver}
-use Rattle.press_stream.specs.Traced.{IsTraceOf}
+use Rattle.press_stream.specs.State.{JobState, NeedsInput, IsOver, input_ended}
+use Rattle.press_stream.specs.Traced.{IsTraceOf, IsTraceSoFar}
 use Rattle.press_stream.specs.Steps.{TakesNothing, TakesHeld, TakesExit, TakesGiven}
 use Rattle.press_stream.proofs.Going.{same_some}
 use Rattle.press_stream.proofs.Items.{left-none, left-one}
 use Rattle.press_trace.specs.declared.place.Place.{Place}
 use Rattle.press_trace.specs.declared.seen.Seen.{Seen}
 use Rattle.press_trace.specs.declared.tracer.Tracer.{Tracer}
-use Rattle.press_trace.specs.Places.{Piece, Placed, Opens, ArePrefix, IsPlacedTrace, placed_at, placed_from, placed_exit, from_on, machine_after, runs_of}
+use Rattle.press_trace.specs.Places.{Piece, Placed, Opens, ArePrefix, AreWhole, IsPlacedSoFar, IsPlacedTrace, commands_of, placed_at, placed_from, placed_exit, from_on, machine_after, runs_of}
+use Rattle.press_trace.specs.Standing.{StandsBehind, exit_if, taken_so_far}
 use Rattle.press_trace.specs.Traced.{AreFirst, last_of}
-use Rattle.press_trace.specs.Tracing.{IsAtStart, TellsOne, place_of, told_before}
-use Rattle.press_trace.proofs.PlaceLemmas.{commands_of, bytes_in, prefix-then, prefix-length, placed-then, runs-at, runs-append, runs-from, last-from, commands-then}
-
--- the items of the exit, once it was taken
-abbrev exit_if : Bool → (at : ℕ) → Machine → List Placed
-exit_if exited at machine = cond exited (placed_exit at machine) []
-
--- the items of the pieces that were taken
-abbrev pub taken_so_far : (exited : Bool) → (long : ℕ) → List Piece → List Placed
-taken_so_far exited long pieces = placed_from 0 pieces power_on ++ exit_if exited long (machine_after pieces power_on)
-
--- It stands behind these items: they are those of the pieces that were taken, but for what bodies still owe.
-pub record StandsBehind (bytes : List ℕ) (placed : List Placed) (now : Tracer) : Type 0 where
-  pub pieces : List Piece
-  pub prefix : ArePrefix Exit bytes pieces now.job.held.mode now.job.held.bytes
-  pub closes : (commands : List Token) → ClosedFrom now.job.held.mode now.job.held.bytes commands → ClosedFrom Exit bytes (commands_of pieces ++ commands)
-  pub over : now.job.exited ≡ true → now.job.held.bytes ≡ []
-  pub machine : Machine
-  pub running : now.job.machine ≡ Some machine
-  pub state : machine ≡ last_machine power_on (runs_of placed)
-  pub are : taken_so_far now.job.exited (length bytes) pieces ≡ placed ++ placed_at now.place (continuation now.job.bodies machine)
-  pub told : told_before now ≡ last_of None placed
-  pub long : now.length ≡ length bytes
+use Rattle.press_trace.specs.Tracing.{IsAtStart, TellsOne, place_of, told_before, with_more}
+use Rattle.press_trace.proofs.PlaceLemmas.{bytes_in, prefix-then, prefix-length, placed-then, runs-at, runs-append, runs-from, last-from, commands-then, whole-prefix, whole-steps, whole-more, whole-then}
 
 -- ---- at the start
 
@@ -68,21 +49,93 @@ none_first bytes =
       places = refl;
     }
 
-pub at_start : (bytes : List ℕ) (tracer : Tracer) → IsAtStart bytes tracer → StandsBehind bytes [] tracer
-at_start bytes tracer start = record {
+pub at_start : (tracer : Tracer) → IsAtStart tracer → StandsBehind [] [] tracer
+at_start tracer start = record {
   pieces = [];
   prefix = (sym (ap (λ (job : JobState). job.held.mode) start.job), sym (ap (λ (job : JobState). job.held.bytes) start.job));
   closes = λ commands closed. subst (λ (job : JobState). ClosedFrom job.held.mode job.held.bytes commands) start.job closed;
-  over = λ exited. absurd (true≢false (sym exited ∙ ap (λ (job : JobState). job.exited) start.job));
+  whole = λ _. (sym (ap (λ (job : JobState). job.held.mode) start.job), sym (ap (λ (job : JobState). job.held.bytes) start.job));
+  inside = λ _. ap (λ (job : JobState). job.exited) start.job;
+  over = λ _. ap (λ (job : JobState). job.held.bytes) start.job;
   machine = power_on;
   running = ap (λ (job : JobState). job.machine) start.job;
   state = refl;
   are =
-      ap (λ (job : JobState). taken_so_far job.exited (length bytes) []) start.job
+      ap (λ (job : JobState). taken_so_far job.exited 0 []) start.job
       ∙ sym (ap (λ (job : JobState). placed_at tracer.place (continuation job.bodies power_on)) start.job);
   told = ap (λ (seen : Option Seen). cond (is_some seen) tracer.job.machine None) start.untold;
-  long = start.whole;
+  long = start.nothing;
 }
+
+-- ---- a piece more, and the end
+
+-- what closes what is held behind pieces that are whole closes the bytes behind their commands
+closes-behind : (bytes : List ℕ) (pieces : List Piece) (held : ScannerState) → AreWhole Exit bytes pieces held.mode held.bytes
+    → (commands : List Token) → ClosedFrom held.mode held.bytes commands → ClosedFrom Exit bytes (commands_of pieces ++ commands)
+closes-behind bytes pieces held whole = end_reaches.ends bytes (commands_of pieces) held (whole-steps Exit bytes pieces held.mode held.bytes whole)
+
+module _ (bytes : List ℕ) (placed : List Placed) (old : Tracer) (behind : StandsBehind bytes placed old) where
+  pub piece_more : (piece : List ℕ) → old.job.held.ended ≡ false → StandsBehind (bytes ++ piece) placed (with_more piece old)
+  piece_more piece going =
+      let held = (with_more piece old).job.held in
+      let whole = whole-more Exit bytes piece behind.pieces old.job.held.mode old.job.held.bytes (behind.whole going) in
+      let none : old.job.exited ≡ false = behind.inside going in
+      record {
+        pieces = behind.pieces;
+        prefix = whole-prefix Exit (bytes ++ piece) behind.pieces held.mode held.bytes whole;
+        closes = closes-behind (bytes ++ piece) behind.pieces held whole;
+        whole = λ _. whole;
+        inside = λ _. none;
+        over = λ out. absurd (true≢false (sym out ∙ none));
+        machine = behind.machine;
+        running = behind.running;
+        state = behind.state;
+        are =
+            ap (λ (out : Bool). taken_so_far out (length (bytes ++ piece)) behind.pieces) none
+            ∙ ap (λ (out : Bool). taken_so_far out (length bytes) behind.pieces) (sym none)
+            ∙ behind.are;
+        told = behind.told;
+        long = ap (λ n. n + length piece) behind.long ∙ sym (length-append bytes piece);
+      }
+
+  pub no_more : (new : Tracer) → new ≡ record old { job = input_ended old.job } → StandsBehind bytes placed new
+  no_more new is = subst (λ (now : Tracer). StandsBehind bytes placed now) (sym is) here where
+    here : StandsBehind bytes placed (record old { job = input_ended old.job })
+    here = record {
+      pieces = behind.pieces;
+      prefix = behind.prefix;
+      closes = behind.closes;
+      whole = λ going. absurd (true≢false going);
+      inside = λ going. absurd (true≢false going);
+      over = behind.over;
+      machine = behind.machine;
+      running = behind.running;
+      state = behind.state;
+      are = behind.are;
+      told = behind.told;
+      long = behind.long;
+    }
+
+  -- where no step is left of the bytes that came, and more may come, the items are those of the trace so far
+  pub all_so_far : NeedsInput old.job → IsTraceSoFar bytes (runs_of placed) × IsPlacedSoFar bytes placed
+  all_so_far hungry =
+      let held = old.job.held in
+      let whole = behind.whole hungry.going in
+      let are : placed_from 0 behind.pieces power_on ≡ placed =
+      sym (append-nil (placed_from 0 behind.pieces power_on))
+      ∙ ap (λ (out : Bool). taken_so_far out (length bytes) behind.pieces) (sym (behind.inside hungry.going))
+      ∙ behind.are
+      ∙ ap (λ (bodies : List Activation). placed ++ placed_at old.place (continuation bodies behind.machine)) hungry.idle
+      ∙ append-nil placed in (
+        (
+          commands_of behind.pieces,
+          held.mode,
+          held.bytes,
+          record { steps = whole-steps Exit bytes behind.pieces held.mode held.bytes whole; short = hungry.short },
+          ap runs_of (sym are) ∙ runs-from 0 behind.pieces power_on,
+        ),
+        (behind.pieces, held.mode, held.bytes, whole, hungry.short, sym are),
+      )
 
 -- ---- one item more
 
@@ -129,6 +182,10 @@ module _ (bytes : List ℕ) (placed : List Placed) (old new : Tracer) (line : Li
         pieces = behind.pieces;
         prefix = subst (λ (now : ScannerState). ArePrefix Exit bytes behind.pieces now.mode now.bytes) (sym held) behind.prefix;
         closes = λ commands closed. behind.closes commands (subst (λ (now : ScannerState). ClosedFrom now.mode now.bytes commands) held closed);
+        whole = λ going.
+            subst (λ (now : ScannerState). AreWhole Exit bytes behind.pieces now.mode now.bytes) (sym held)
+            (behind.whole (ap (λ (now : ScannerState). now.ended) (sym held) ∙ going));
+        inside = λ going. exited ∙ behind.inside (ap (λ (now : ScannerState). now.ended) (sym held) ∙ going);
         over = λ is. ap (λ (now : ScannerState). now.bytes) held ∙ behind.over (sym exited ∙ is);
         machine = tells.item.machine;
         running = tells.does.ends;
@@ -143,8 +200,8 @@ module _ (bytes : List ℕ) (placed : List Placed) (old new : Tracer) (line : Li
       }
 
   -- where no body runs, the items are those of the pieces alone
-  whole : old.job.bodies ≡ [] → old.job.exited ≡ false → placed_from 0 behind.pieces power_on ≡ placed
-  whole idle going =
+  whole_items : old.job.bodies ≡ [] → old.job.exited ≡ false → placed_from 0 behind.pieces power_on ≡ placed
+  whole_items idle going =
       sym (append-nil (placed_from 0 behind.pieces power_on))
       ∙ ap (λ (out : Bool). taken_so_far out (length bytes) behind.pieces) (sym going)
       ∙ behind.are
@@ -154,7 +211,7 @@ module _ (bytes : List ℕ) (placed : List Placed) (old new : Tracer) (line : Li
   after-is : old.job.bodies ≡ [] → old.job.exited ≡ false → machine_after behind.pieces power_on ≡ behind.machine
   after-is idle going =
       sym (last-from 0 behind.pieces power_on)
-      ∙ ap (λ (items : List Placed). last_machine power_on (runs_of items)) (whole idle going)
+      ∙ ap (λ (items : List Placed). last_machine power_on (runs_of items)) (whole_items idle going)
       ∙ sym behind.state
 
   -- the items of a command of the stream
@@ -163,52 +220,84 @@ module _ (bytes : List ℕ) (placed : List Placed) (old new : Tracer) (line : Li
       ap (trace_at macro_levels command) (sym from-is) ∙ sym (left-one command tells.does.from)
       ∙ (λ i. left (sym is i) (sym idle i) tells.does.from) ∙ tells.does.are
 
-  pub next_command : (ended : old.job.held.ended ≡ true) → TakesHeld old.job tells.does.given new.job → StandsBehind bytes (one_more placed new.place tells.item) new
-  next_command ended (command, is, idle, going, still, passes) =
-      let found = passes.prefix ended in
-      let piece : Piece = record { bytes = found.0; command = command } in
-      let pieces = behind.pieces in
-      let all = prefix-length Exit bytes pieces old.job.held.mode old.job.held.bytes behind.prefix in
-      let used : length old.job.held.bytes ≡ length found.0 + length new.job.held.bytes = ap length found.1 ∙ length-append found.0 new.job.held.bytes in
-      let here : length bytes - length old.job.held.bytes ≡ 0 + bytes_in pieces = omega (arith, all) in
-      let size : length old.job.held.bytes - length new.job.held.bytes ≡ length found.0 = omega (arith, used) in
-      let place : new.place ≡ from_on (0 + bytes_in pieces) (length found.0) =
-      tells.place ∙ ap (λ (given : List Token). place_of old.length old.place given old.job.held new.job.held) is
-      ∙ ap (λ n. from_on (n - length old.job.held.bytes) (length old.job.held.bytes - length new.job.held.bytes)) behind.long
-      ∙ (λ i. from_on (here i) (size i)) in
-      record {
-        pieces = pieces ++ piece ∷ [];
-        prefix = prefix-then Exit bytes pieces old.job.held.mode old.job.held.bytes piece new.job.held.bytes new.job.held.mode behind.prefix found.1 (opens found.0 found.1 found.2);
-        closes = λ commands closed.
-            subst (λ these. ClosedFrom Exit bytes these)
-            (sym (append_assoc (commands_of pieces) (command ∷ []) commands) ∙ ap (λ (these : List Token). these ++ commands) (sym (commands-then pieces piece)))
-            (behind.closes (command ∷ commands) (passes.closes ended commands closed));
-        over = λ out. absurd (true≢false (sym out ∙ still));
-        machine = tells.item.machine;
-        running = tells.does.ends;
-        state = state-then placed one;
-        are =
-            ap (λ (out : Bool). taken_so_far out (length bytes) (pieces ++ piece ∷ [])) still
-            ∙ append-nil _
-            ∙ placed-then 0 pieces piece power_on
-            ∙ (λ i. whole idle going i ++ placed_at (sym place i) (trace_at macro_levels command (after-is idle going i)))
-            ∙ ap (λ (runs : List StepResult). placed ++ placed_at new.place runs) (outside-owes command is idle)
-            ∙ continuation-then new.place (continuation new.job.bodies tells.item.machine) refl;
-        told = told-then new tells.item.machine placed one tells.told tells.does.ends;
-        long = tells.still ∙ behind.long;
-      }
-    where
-      opens : (used : List ℕ) → old.job.held.bytes ≡ used ++ new.job.held.bytes
-          → Head old.job.held.mode used new.job.held.bytes command new.job.held.mode
-          ⊎ (NoHead old.job.held.mode old.job.held.bytes
-          × ClosesAs (scanned_in old.job.held.mode old.job.held.bytes) used new.job.held.bytes command new.job.held.mode)
-          → Opens old.job.held.mode (record { bytes = used; command = command }) new.job.held.bytes new.job.held.mode
-      opens used cut (inl head) = inl head
-      opens used cut (inr (none, closes)) =
-          inr (
-            subst (NoHead old.job.held.mode) cut none,
-            subst (λ (all : List ℕ). ClosesAs (scanned_in old.job.held.mode all) used new.job.held.bytes command new.job.held.mode) cut closes,
-          )
+  -- a command that is held, by the bytes that it is, the pieces with it, and what they leave
+  module _ (command : Token) (is : tells.does.given ≡ command ∷ []) (idle : old.job.bodies ≡ []) (going : old.job.exited ≡ false) (still : new.job.exited ≡ false)
+      (used : List ℕ) (cut : old.job.held.bytes ≡ used ++ new.job.held.bytes)
+      (opens : Opens old.job.held.mode (record { bytes = used; command = command }) new.job.held.bytes new.job.held.mode) where
+    abbrev piece : Piece
+    piece = record { bytes = used; command = command }
+
+    abbrev pieces : List Piece
+    pieces = behind.pieces
+
+    place : new.place ≡ from_on (0 + bytes_in pieces) (length used)
+    place =
+        let all = prefix-length Exit bytes pieces old.job.held.mode old.job.held.bytes behind.prefix in
+        let whole_length : length old.job.held.bytes ≡ length used + length new.job.held.bytes = ap length cut ∙ length-append used new.job.held.bytes in
+        let here : length bytes - length old.job.held.bytes ≡ 0 + bytes_in pieces = omega (arith, all) in
+        let size : length old.job.held.bytes - length new.job.held.bytes ≡ length used = omega (arith, whole_length) in
+        tells.place ∙ ap (λ (given : List Token). place_of old.length old.place given old.job.held new.job.held) is
+        ∙ ap (λ n. from_on (n - length old.job.held.bytes) (length old.job.held.bytes - length new.job.held.bytes)) behind.long
+        ∙ (λ i. from_on (here i) (size i))
+
+    command_taken : (closes : (commands : List Token) → ClosedFrom new.job.held.mode new.job.held.bytes commands → ClosedFrom Exit bytes (commands_of (pieces ++ piece ∷ []) ++ commands))
+        → (whole : new.job.held.ended ≡ false → AreWhole Exit bytes (pieces ++ piece ∷ []) new.job.held.mode new.job.held.bytes)
+        → StandsBehind bytes (one_more placed new.place tells.item) new
+    command_taken closes whole = record {
+      pieces = pieces ++ piece ∷ [];
+      prefix = prefix-then Exit bytes pieces old.job.held.mode old.job.held.bytes piece new.job.held.bytes new.job.held.mode behind.prefix cut opens;
+      closes = closes;
+      whole = whole;
+      inside = λ _. still;
+      over = λ out. absurd (true≢false (sym out ∙ still));
+      machine = tells.item.machine;
+      running = tells.does.ends;
+      state = state-then placed one;
+      are =
+          ap (λ (out : Bool). taken_so_far out (length bytes) (pieces ++ piece ∷ [])) still
+          ∙ append-nil _
+          ∙ placed-then 0 pieces piece power_on
+          ∙ (λ i. whole_items idle going i ++ placed_at (sym place i) (trace_at macro_levels command (after-is idle going i)))
+          ∙ ap (λ (runs : List StepResult). placed ++ placed_at new.place runs) (outside-owes command is idle)
+          ∙ continuation-then new.place (continuation new.job.bodies tells.item.machine) refl;
+      told = told-then new tells.item.machine placed one tells.told tells.does.ends;
+      long = tells.still ∙ behind.long;
+    }
+
+    abbrev with_it : (List Token) → List Token
+    with_it commands = commands_of pieces ++ command ∷ commands
+
+    commands-with : (commands : List Token) → with_it commands ≡ commands_of (pieces ++ piece ∷ []) ++ commands
+    commands-with commands =
+        sym (append_assoc (commands_of pieces) (command ∷ []) commands) ∙ ap (λ (these : List Token). these ++ commands) (sym (commands-then pieces piece))
+
+  pub next_command : TakesHeld old.job tells.does.given new.job → StandsBehind bytes (one_more placed new.place tells.item) new
+  next_command (command, is, idle, going, still, passes) = by old.job.held.ended refl where
+    opens : (used : List ℕ) → old.job.held.bytes ≡ used ++ new.job.held.bytes
+        → Head old.job.held.mode used new.job.held.bytes command new.job.held.mode
+        ⊎ (NoHead old.job.held.mode old.job.held.bytes
+        × ClosesAs (scanned_in old.job.held.mode old.job.held.bytes) used new.job.held.bytes command new.job.held.mode)
+        → Opens old.job.held.mode (record { bytes = used; command = command }) new.job.held.bytes new.job.held.mode
+    opens used cut (inl head) = inl head
+    opens used cut (inr (none, closes)) =
+        inr (
+          subst (NoHead old.job.held.mode) cut none,
+          subst (λ (all : List ℕ). ClosesAs (scanned_in old.job.held.mode all) used new.job.held.bytes command new.job.held.mode) cut closes,
+        )
+
+    by : (ended : Bool) → old.job.held.ended ≡ ended → StandsBehind bytes (one_more placed new.place tells.item) new
+    by true ended =
+        let found = passes.prefix ended in
+        command_taken command is idle going still found.0 found.1 (opens found.0 found.1 found.2)
+        (λ commands closed.
+        subst (ClosedFrom Exit bytes) (commands-with command is idle going still found.0 found.1 (opens found.0 found.1 found.2) commands)
+        (behind.closes (command ∷ commands) (passes.closes ended commands closed)))
+        (λ more. absurd (true≢false (sym (passes.ended ∙ ended) ∙ more)))
+    by false more =
+        let found = passes.head more in
+        let piece : Piece = record { bytes = found.0; command = command } in
+        let whole = whole-then Exit bytes behind.pieces old.job.held.mode old.job.held.bytes piece new.job.held.bytes new.job.held.mode (behind.whole more) found.1 found.2 in
+        command_taken command is idle going still found.0 found.1 (inl found.2) (closes-behind bytes (behind.pieces ++ piece ∷ []) new.job.held whole) (λ _. whole)
 
   pub the_exit : TakesExit old.job tells.does.given new.job → StandsBehind bytes (one_more placed new.place tells.item) new
   the_exit (is, idle, going, out, held, ended, done) =
@@ -225,24 +314,26 @@ module _ (bytes : List ℕ) (placed : List Placed) (old new : Tracer) (line : Li
         pieces = pieces;
         prefix = subst (λ (now : ScannerState). ArePrefix Exit bytes pieces now.mode now.bytes) (sym held) behind.prefix;
         closes = λ commands closed. behind.closes commands (subst (λ (now : ScannerState). ClosedFrom now.mode now.bytes commands) held closed);
+        whole = λ going. absurd (true≢false (sym ended ∙ ap (λ (now : ScannerState). now.ended) (sym held) ∙ going));
+        inside = λ going. absurd (true≢false (sym ended ∙ ap (λ (now : ScannerState). now.ended) (sym held) ∙ going));
         over = λ _. ap (λ (now : ScannerState). now.bytes) held ∙ nothing;
         machine = tells.item.machine;
         running = tells.does.ends;
         state = state-then placed one;
         are =
             ap (λ (exited : Bool). taken_so_far exited (length bytes) pieces) out
-            ∙ (λ i. whole idle going i ++ placed_at (sym place i) (trace_at macro_levels Uel (after-is idle going i)))
+            ∙ (λ i. whole_items idle going i ++ placed_at (sym place i) (trace_at macro_levels Uel (after-is idle going i)))
             ∙ ap (λ (runs : List StepResult). placed ++ placed_at new.place runs) (outside-owes Uel is idle)
             ∙ continuation-then new.place (continuation new.job.bodies tells.item.machine) refl;
         told = told-then new tells.item.machine placed one tells.told tells.does.ends;
         long = tells.still ∙ behind.long;
       }
 
-  pub one_step : old.job.held.ended ≡ true → StandsBehind bytes (one_more placed new.place tells.item) new
-  one_step ended = by tells.does.takes where
+  pub one_step : StandsBehind bytes (one_more placed new.place tells.item) new
+  one_step = by tells.does.takes where
     by : TakesGiven old.job tells.does.given new.job → StandsBehind bytes (one_more placed new.place tells.item) new
     by (inl takes) = in_body takes
-    by (inr (inl takes)) = next_command ended takes
+    by (inr (inl takes)) = next_command takes
     by (inr (inr takes)) = the_exit takes
 
 -- ---- the items so far are the first of the trace

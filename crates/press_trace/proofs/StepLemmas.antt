@@ -112,12 +112,12 @@ fewer_held old new item kind does = by does.takes where
   by (inr (inl (command, is, idle, going, still, passes))) = omega (arith, passes.used)
   by (inr (inr (is, idle, going, out, held, ended, done))) = omega (arith, ap (λ (now : ScannerState). length now.bytes) held)
 
-pub ended_still : (old new : JobState) (item : StepResult) (kind : Kind) → Does old item kind new → old.held.ended ≡ true → new.held.ended ≡ true
-ended_still old new item kind does was = by does.takes where
-  by : TakesGiven old does.given new → new.held.ended ≡ true
-  by (inl (inside, nothing, held, exited)) = ap (λ (now : ScannerState). now.ended) held ∙ was
-  by (inr (inl (command, is, idle, going, still, passes))) = passes.ended ∙ was
-  by (inr (inr (is, idle, going, out, held, ended, done))) = ap (λ (now : ScannerState). now.ended) held ∙ was
+pub ended_still : (old new : JobState) (item : StepResult) (kind : Kind) → Does old item kind new → new.held.ended ≡ old.held.ended
+ended_still old new item kind does = by does.takes where
+  by : TakesGiven old does.given new → new.held.ended ≡ old.held.ended
+  by (inl (inside, nothing, held, exited)) = ap (λ (now : ScannerState). now.ended) held
+  by (inr (inl (command, is, idle, going, still, passes))) = passes.ended
+  by (inr (inr (is, idle, going, out, held, ended, done))) = ap (λ (now : ScannerState). now.ended) held
 
 -- where its command stands
 pub place_is : (old new : JobState) (item : StepResult) (kind : Kind) (does : Does old item kind new) (outside : Bool) (long : ℕ)

@@ -13,4 +13,5 @@ pub mod Places
 pub mod Lines
 pub mod Tracing
 pub mod Traced
+pub mod Standing
 pub mod Rebuilt

@@ -34,6 +34,17 @@ ArePrefix from bytes (piece ∷ pieces) mode left =
 abbrev pub ArePieces : List ℕ → List Piece → Type 0
 ArePieces bytes pieces = (mode : ParserState) × ArePrefix Exit bytes pieces mode []
 
+-- The pieces stand one behind the other and are whole commands, whatever comes behind them; these bytes are left.
+abbrev pub AreWhole : ParserState → List ℕ → List Piece → ParserState → (left : List ℕ) → Type 0
+AreWhole from bytes [] mode left = (from ≡ mode) × (bytes ≡ left)
+AreWhole from bytes (piece ∷ pieces) mode left =
+    (behind : List ℕ) × (next : ParserState) × (bytes ≡ piece.bytes ++ behind)
+    × Head from piece.bytes behind piece.command next × AreWhole next behind pieces mode left
+
+-- their commands
+abbrev pub commands_of : List Piece → List Token
+commands_of pieces = map (λ (piece : Piece). piece.command) pieces
+
 -- an item of a trace, with the place of the command of the stream to which it belongs
 pub record Placed : Type 0 where
   pub place : Place
@@ -71,6 +82,12 @@ abbrev pub IsPlacedTrace : List ℕ → List Placed → Type 0
 IsPlacedTrace bytes placed =
     (pieces : List Piece) × ArePieces bytes pieces
     × (placed ≡ placed_from 0 pieces power_on ++ placed_exit (length bytes) (machine_after pieces power_on))
+
+-- The trace so far with its places: that of the pieces of these bytes that are whole, behind which no command stands.
+abbrev pub IsPlacedSoFar : List ℕ → List Placed → Type 0
+IsPlacedSoFar bytes placed =
+    (pieces : List Piece) × (mode : ParserState) × (rest : List ℕ) × AreWhole Exit bytes pieces mode rest × NoHead mode rest
+    × (placed ≡ placed_from 0 pieces power_on)
 
 -- without the places
 abbrev pub runs_of : List Placed → List StepResult

@@ -1,15 +1,15 @@
 -- A stream whose trace was told.
-use Rattle.std.specs.Prelude.{◌≡◌, ℕ, List, [], ◌∷◌, ◌++◌, length, Option, None, Some, ⊤}
-use Rattle.std.specs.Io.KnownBytes.{Appends}
+use Rattle.std.specs.Prelude.{◌≡◌, ◌⊎◌, ℕ, List, [], ◌∷◌, ◌++◌, length, Option, None, Some, ⊤}
+use Rattle.std.specs.Io.KnownBytes.{Appends, Consumes, IsAtEnd}
 use Rattle.press_devices.specs.Writing.{AppendsPrefix}
 use Rattle.press_cmd.specs.ParserState.{ParserState, Exit}
 use Rattle.press_engine.specs.declared.machine.Machine.{Machine}
 use Rattle.press_engine.specs.Machine.{StepResult, power_on}
-use Rattle.press_stream.specs.Traced.{IsTraceOf}
+use Rattle.press_stream.specs.Traced.{IsTraceOf, IsTraceSoFar}
 use Rattle.press_trace.specs.declared.fault.TraceError.{TraceError}
-use Rattle.press_trace.specs.declared.fault.TraceError.TheVariants.{Output, NoMemory}
+use Rattle.press_trace.specs.declared.fault.TraceError.TheVariants.{ReadFault, Output, NoMemory}
 use Rattle.press_trace.specs.Lines.{IsLine, AreLines}
-use Rattle.press_trace.specs.Places.{Piece, Placed, ArePrefix, IsPlacedTrace, placed_from, placed_exit, machine_after, runs_of}
+use Rattle.press_trace.specs.Places.{Piece, Placed, ArePrefix, IsPlacedSoFar, IsPlacedTrace, placed_from, placed_exit, machine_after, runs_of}
 
 -- The lines of all items of the trace of these bytes were written, in order, and nothing else.
 pub record Traces (bytes : List ℕ) (old new : Option (List ℕ)) : Type 0 where
@@ -17,6 +17,15 @@ pub record Traces (bytes : List ℕ) (old new : Option (List ℕ)) : Type 0 wher
   pub text : List ℕ
   pub items : IsTraceOf bytes (runs_of placed)
   pub places : IsPlacedTrace bytes placed
+  pub lines : AreLines None placed text
+  pub written : Appends old new text
+
+-- The same of a stream that may go on: the lines of all items of the trace so far.
+pub record TracesSoFar (bytes : List ℕ) (old new : Option (List ℕ)) : Type 0 where
+  pub placed : List Placed
+  pub text : List ℕ
+  pub items : IsTraceSoFar bytes (runs_of placed)
+  pub places : IsPlacedSoFar bytes placed
   pub lines : AreLines None placed text
   pub written : Appends old new text
 
@@ -42,11 +51,13 @@ StopsAtLine bytes placed old new (Output error) =
     (next : Placed) × (line : List ℕ) × AreFirst bytes (placed ++ next ∷ []) × IsLine (last_of None placed) next line
     × AppendsPrefix old new line
 StopsAtLine bytes placed old new NoMemory = new ≡ old
+StopsAtLine bytes placed old new ReadFault = ⊥
 
 -- that a line cannot be written
 abbrev pub IsOutput : TraceError → Type 0
 IsOutput (Output error) = ⊤
 IsOutput NoMemory = ⊥
+IsOutput ReadFault = ⊥
 
 -- The lines of the first items were written, and then it stopped, and this is why.
 pub record StopsTracing (bytes : List ℕ) (old new : Option (List ℕ)) (why : TraceError) : Type 0 where
@@ -57,3 +68,16 @@ pub record StopsTracing (bytes : List ℕ) (old new : Option (List ℕ)) (why : 
   pub lines : AreLines None placed text
   pub written : Appends old between text
   pub stops : StopsAtLine bytes placed between new why
+
+-- A reader had a stream, and the lines of its whole trace were written, in order, and nothing else.
+abbrev pub Traced : (had left old new : Option (List ℕ)) → Type 0
+Traced had left old new = (bytes : List ℕ) × Consumes had left bytes × IsAtEnd left × Traces bytes old new
+
+-- What was written of a stream that was not traced to its end, by the fault: where a read failed, the lines of all items of the bytes
+-- before; where memory ran out, those of the first items of the bytes that were read; and where a line cannot be written, those and a
+-- prefix of the next; or all lines, of which some do not go out of the program.
+abbrev pub StopsTelling : (had left old new : Option (List ℕ)) → TraceError → Type 0
+StopsTelling had left old new ReadFault = (bytes : List ℕ) × Consumes had left bytes × TracesSoFar bytes old new
+StopsTelling had left old new (Output error) =
+    ((bytes : List ℕ) × Consumes had left bytes × StopsTracing bytes old new (Output error)) ⊎ Traced had left old new
+StopsTelling had left old new NoMemory = (bytes : List ℕ) × Consumes had left bytes × StopsTracing bytes old new NoMemory

@@ -1,5 +1,5 @@
 -- A stream that is told step by step.
-use Rattle.std.specs.Prelude.{◌≡◌, ◌-◌, ◌≤◌, ℕ, List, [], ◌∷◌, length, Option, None, Some, IsSome, Bool, true, false, is_some, if◌then◌else◌}
+use Rattle.std.specs.Prelude.{◌≡◌, ◌-◌, ◌≤◌, ◌+◌, ℕ, List, [], ◌∷◌, length, Option, None, Some, IsSome, Bool, false, is_some, if◌then◌else◌}
 use Rattle.press_cmd.specs.Token.{Token}
 use Rattle.press_cmd.specs.declared.variant.Kind.{Kind}
 use Rattle.press_scan.specs.ScannerState.{ScannerState}
@@ -9,7 +9,8 @@ use Rattle.press_engine.specs.declared.machine.Machine.{Machine}
 use Rattle.press_engine.specs.Machine.{StepResult}
 use Rattle.press_engine.specs.Engine.{view_of}
 use Rattle.press_table.specs.Outputs.{all_outputs}
-use Rattle.press_stream.specs.State.{IsOver, opened, with_piece, input_ended}
+use Rattle.press_stream.specs.State.{opened, with_piece}
+use Rattle.press_stream.specs.Answers.{IsIdle}
 use Rattle.press_stream.specs.Steps.{Does}
 use Rattle.press_trace.specs.declared.place.Place.{Place}
 use Rattle.press_trace.specs.declared.seen.Seen.{Seen}
@@ -17,11 +18,19 @@ use Rattle.press_trace.specs.declared.tracer.Tracer.{Tracer}
 use Rattle.press_trace.specs.Lines.{IsLine}
 use Rattle.press_trace.specs.Places.{Placed, from_on}
 
--- No step of the stream of these bytes was taken.
-pub record IsAtStart (bytes : List ℕ) (tracer : Tracer) : Type 0 where
-  pub job : tracer.job ≡ input_ended (with_piece bytes opened)
-  pub whole : tracer.length ≡ length bytes
+-- No byte of the stream came.
+pub record IsAtStart (tracer : Tracer) : Type 0 where
+  pub job : tracer.job ≡ opened
+  pub nothing : tracer.length ≡ 0
   pub untold : tracer.before ≡ None
+
+-- the most bytes that a stream has: as many reads as there are of one input give them, of 16,384 bytes each
+abbrev pub most_bytes : ℕ
+most_bytes = 70368744161280
+
+-- with a piece of the stream behind what came
+abbrev pub with_more : List ℕ → Tracer → Tracer
+with_more piece tracer = record tracer { job = with_piece piece tracer.job; length = tracer.length + length piece }
 
 -- what was kept of a machine: what can be seen of it, and its open page
 pub record Keeps (seen : Seen) (page : Option Page) (machine : Machine) : Type 0 where
@@ -41,7 +50,6 @@ told_before tracer = if is_some tracer.before then tracer.job.machine else None
 -- What is true between two steps.
 pub record IsSound (tracer : Tracer) : Type 0 where
   pub running : IsSome tracer.job.machine
-  pub ended : tracer.job.held.ended ≡ true
   pub within : length tracer.job.held.bytes ≤ tracer.length
   pub shown : (machine : Machine) → tracer.job.machine ≡ Some machine → tracer.page ≡ machine.state.page
   pub kept : IsKept (told_before tracer) tracer.before tracer.page
@@ -76,5 +84,5 @@ pub record TellsOne (old : Tracer) (line : List ℕ) (new : Tracer) : Type 0 whe
   pub is_line : IsLine (told_before old) (record { place = new.place; run = item }) line
 
 abbrev pub Tells : Tracer → Option (List ℕ) → Tracer → Type 0
-Tells old None new = IsOver old.job × (new ≡ old)
+Tells old None new = IsIdle old.job × (new ≡ old)
 Tells old (Some line) new = TellsOne old line new

@@ -1,5 +1,6 @@
 //! Why the telling of a trace ended early, and what is told of it (this profile).
 
+use press_devices::{READ_FAULT, ReadFailed};
 use press_telling::NO_OUTPUT;
 use press_units::ToldFault;
 use std::alloc::AllocError;
@@ -9,7 +10,9 @@ use std::{fmt, io};
 /// Why the telling of a trace ended early.
 #[derive(Debug, Drop)]
 pub enum TraceError {
-    /// A line cannot be written.
+    /// A read failed, or there were too many.
+    ReadFault,
+    /// A line cannot be written, or what was written does not go out of the program.
     Output(io::Error),
     NoMemory,
 }
@@ -22,6 +25,7 @@ impl fmt::Display for TraceError {
 
     fn fmt<W: fmt::Write>(&self, f: &mut fmt::Formatter<W>) -> fmt::Result {
         match self {
+            TraceError::ReadFault => write!(f, "{}", ToldFault(Some(READ_FAULT))),
             TraceError::Output(_) => write!(f, "{NO_OUTPUT}"),
             TraceError::NoMemory => write!(f, "{}", ToldFault(None)),
         }
@@ -29,6 +33,17 @@ impl fmt::Display for TraceError {
 }
 
 impl Error for TraceError {}
+
+impl From<ReadFailed> for TraceError {
+    ghost use Rattle.std.specs.Prelude.{◌≡◌};
+    ghost use Rattle.press_trace.specs.declared.fault.TraceError.TheVariants.{ReadFault};
+
+    ghost from_gives = { λ _ error. error ≡ ReadFault };
+
+    fn from(_fault: ReadFailed) -> TraceError {
+        TraceError::ReadFault
+    }
+}
 
 impl From<io::Error> for TraceError {
     ghost use Rattle.std.specs.Prelude.{◌≡◌};

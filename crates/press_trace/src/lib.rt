@@ -17,4 +17,4 @@ mod tracer;
 mod tracing;
 
 pub use fault::TraceError;
-pub use tracing::trace_lines;
+pub use tracing::trace_stream;

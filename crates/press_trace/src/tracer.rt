@@ -1,6 +1,6 @@
 //! A stream that is carried out step by step, and told line by line.
 
-ghost use Rattle.std.specs.Prelude.{◌≡◌, ◌≤◌, ◌||◌, not, length, IfOk, OnOk};
+ghost use Rattle.std.specs.Prelude.{◌≡◌, ◌≤◌, ◌+◌, ◌||◌, false, not, length, IfOk, OnOk};
 ghost use Rattle.press_table.specs.PageKept.{kind_may_change_page};
 
 use crate::line::seen_line;
@@ -19,7 +19,7 @@ use std::alloc::{AllocError, Global};
 pub(crate) struct Tracer {
     alloc: Global,
     job: Job,
-    /// How many bytes the stream has.
+    /// How many bytes of the stream came so far.
     length: usize,
     /// Where the command of the stream stands to which the last step belongs.
     place: Place,
@@ -43,29 +43,46 @@ impl Tracer {
     ghost use Rattle.press_trace.specs.Lines.{IsLine};
     ghost use Rattle.press_trace.specs.Pages.{IsPageTold};
     ghost use Rattle.press_trace.specs.Plain.{IsPlain};
-    ghost use Rattle.press_trace.specs.Tracing.{IsAtStart, IsSound, IsKept, Tells, Shows, placed_run, place_if};
+    ghost use Rattle.press_stream.specs.State.{input_ended};
+    ghost use Rattle.press_trace.specs.Tracing.{IsAtStart, IsSound, IsKept, Tells, Shows, most_bytes, placed_run, place_if, with_more};
 
-    /// A stream of these bytes, of which no step was taken.
-    pub(crate) fn open(alloc: Global, bytes: &[u8]) -> Result<Self, AllocError>
-        ensures start { IfOk result (IsAtStart bytes.now) }
+    /// A stream of which no byte came.
+    pub(crate) fn open(alloc: Global) -> Result<Self, AllocError>
+        ensures start { IfOk result IsAtStart }
         ensures sound { IfOk result IsSound }
     {
-        let mut job = Job::open(alloc)?;
-        if job.push(bytes).is_err() {
-            return Err(AllocError);
-        }
-        job.end_input();
         Ok(Tracer {
             alloc,
-            job,
-            length: bytes.len(),
+            job: Job::open(alloc)?,
+            length: 0,
             place: Place { at: 0, bytes: 0 },
             before: None,
             page: None,
         })
     }
 
-    /// Takes the next table step. The answer is its line, with its line feed; none where no step is left.
+    /// Takes the next piece of the stream.
+    pub(crate) fn push(&mut self, piece: &[u8]) -> Result<(), AllocError>
+        requires sound { IsSound self.old }
+        requires going { self.old.job.held.ended ≡ false }
+        requires few { self.old.length + length piece.now ≤ most_bytes }
+        ensures pushed { OnOk result (self.new ≡ with_more piece.now self.old) }
+    {
+        if self.job.push(piece).is_err() {
+            return Err(AllocError);
+        }
+        self.length += piece.len();
+        Ok(())
+    }
+
+    /// Gives the end of the stream.
+    pub(crate) fn end_input(&mut self)
+        ensures { self.new ≡ record self.old { job = input_ended self.old.job } }
+    {
+        self.job.end_input();
+    }
+
+    /// Takes the next table step. The answer is its line, with its line feed; none where no step is left of the bytes that came.
     pub(crate) fn next_line(&mut self) -> Result<Option<Vec<u8>>, AllocError>
         requires { IsSound self.old }
         ensures tells { IfOk result (λ line.

@@ -6,7 +6,7 @@ use Rattle.press_engine.proofs.StepLaws.{others_keep_the_page}
 use Rattle.press_stream.proofs.Going.{same_some}
 use Rattle.press_trace.specs.declared.tracer.Tracer.{Tracer}
 use Rattle.press_trace.specs.Tracing.{IsSound, Shows, TellsOne, place_if, told_before}
-use Rattle.press_trace.proofs.StepLemmas.{ended_still, fewer_held, kept_now, kept_page, kept_told, page_stays, place_is, step_did}
+use Rattle.press_trace.proofs.StepLemmas.{fewer_held, kept_now, kept_page, kept_told, page_stays, place_is, step_did}
 use Rattle.press_trace.proofs.tracer.Tracer.next_line.Goals as goal
 
 pub place_behind-self-requires-clause-fewer : goal.place_behind-self-requires-clause-fewer
@@ -61,7 +61,6 @@ returns-in_ok-line-in-Ok-Ran-clause-sound c =
     let keeps = c.in_ok-line-in-Ok-Ran.ensures.kept did.0 shows in
     let sound : IsSound new = record {
       running = subst IsSome (sym did.1.ends) refl;
-      ended = ended_still old.job job item step.kind did.1 c.requires.ended;
       within = omega (arith, fewer_held old.job job item step.kind did.1, c.requires.within);
       shown = λ machine is.
           kept_page did.0 c.tell.new.self.before c.tell.new.self.page keeps
