@@ -5,5 +5,6 @@ pub mod Faults
 pub mod Refusals
 pub mod Over
 pub mod Going
+pub mod KindLemmas
 pub mod PlaceLaws
 pub mod worked

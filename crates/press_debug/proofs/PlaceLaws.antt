@@ -16,6 +16,7 @@ use Rattle.press_stream.proofs.LeftLemmas.{left_goes_on}
 use Rattle.press_debug.specs.Steps.{DebuggerState, Advances, at_start, with_kinds}
 use Rattle.press_debug.specs.Places.{StandsBehind, PlacesGoOn}
 use Rattle.press_stream.specs.Traced.{IsTraceOf}
+use Rattle.press_debug.proofs.KindLemmas.{kinds_of_places}
 use Rattle.press_debug.proofs.Taking.{with_kinds-append}
 
 begins : (bytes : List ℕ) → StandsBehind bytes [] (at_start bytes)
@@ -56,4 +57,4 @@ at_end bytes items now behind over =
     subst (IsTraceOf bytes) (ap (λ (more : List StepResult). items ++ more) none ∙ append-nil items) behind.are
 
 pub places_go_on : PlacesGoOn
-places_go_on = record { begins = begins; goes_on = goes_on; at_end = at_end }
+places_go_on = record { begins = begins; goes_on = goes_on; at_end = at_end; kinds = kinds_of_places }

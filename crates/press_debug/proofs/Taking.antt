@@ -3,7 +3,6 @@ use Rattle.std.proofs.Common.{◌≡◌, ◌∙◌, ◌+◌, ◌≤◌, ◌↔�
 use Rattle.std.proofs.Common.{Some, None, IfSome, IsSome, IsTrue, IsFalse, Ok, refl, sym, ap, subst, inl, inr, arith}
 use Rattle.std.proofs.lemmas.Bool.{false≢true, true≢false}
 use Rattle.std.proofs.lemmas.List.{append_assoc}
-use Rattle.press_cmd.specs.Token.{Token}
 use Rattle.press_cmd.specs.declared.variant.Kind.{Kind}
 use Rattle.press_engine.specs.declared.step_output.StepOutput.{StepOutput}
 use Rattle.press_engine.specs.declared.machine.Last.{Last}
@@ -18,9 +17,8 @@ use Rattle.press_stream.specs.declared.step.JobStep.TheVariants as steps
 use Rattle.press_stream.specs.Answers.{TakesStep}
 use Rattle.press_stream.specs.Steps.{Does, DoesStep}
 use Rattle.press_stream.specs.Left.{LeftOf, LeftGoesOn}
-use Rattle.press_stream.specs.Meaning.{left, Owes}
 use Rattle.press_stream.specs.State.{JobState, IsOver}
-use Rattle.press_stream.proofs.Going.{Owes-some, same_some, some_of, taken-ended}
+use Rattle.press_stream.proofs.Going.{same_some, some_of, taken-ended}
 use Rattle.press_stream.proofs.Items.{last-append}
 use Rattle.press_stream.proofs.ItemsLeft.{items_left, LeftOf-one, LeftOf-some}
 use Rattle.press_stream.proofs.LeftLemmas.{left_before}

@@ -1,13 +1,16 @@
 //! A debugger of streams: steps, breakpoints and a watch.
 
-ghost use Rattle.std.specs.Prelude.{◌≡◌, IfOk, IfSome};
+ghost use Rattle.std.specs.Prelude.{◌≡◌, IfErr, IfOk, IfSome};
+ghost use Rattle.press_devices.specs.Reading.{ReadFails};
 ghost use Rattle.press_engine.specs.Engine.{view_of};
+ghost use Rattle.press_debug.specs.declared.fault.OpenError.{OpenError};
 
 use crate::breakpoints::{Break, Breakpoints};
-use crate::fault::BreakError;
+use crate::fault::{BreakError, OpenError};
 use crate::stepper::{Stepper, Taken};
 use crate::watch::Watch;
 use press_cmd::Kind;
+use press_devices::ReadDevice;
 use press_engine::View;
 use std::alloc::{AllocError, Global};
 
@@ -40,10 +43,12 @@ pub struct Debugger<F> {
 }
 
 impl<F: Fn(&View<'_>) -> bool + Drop> Debugger<F> {
-    ghost use Rattle.std.specs.Prelude.{◌≤◌, ◌↔◌, length, slice_get, None};
+    ghost use Rattle.std.specs.Prelude.{◌≤◌, ◌↔◌, ℕ, List, length, slice_get, None};
+    ghost use Rattle.press_engine.specs.Machine.{StepResult};
+    ghost use Rattle.press_debug.specs.Places.{ShowsItem, StandsBehind};
     ghost use Rattle.std.specs.Fn.{FnReturnsAt};
     ghost use Rattle.press_debug.specs.Breaks.{most_breaks, no_breaks, Sets, Clears};
-    ghost use Rattle.press_debug.specs.Steps.{at_start, most_recent};
+    ghost use Rattle.press_debug.specs.Steps.{at_start, IsReadAtStart, most_recent};
     ghost use Rattle.press_debug.specs.Stops.{ContinuesTo, StopsInto, StopsOver, StateMeets};
 
     /// A debugger of the stream of these bytes, before its first step.
@@ -58,6 +63,30 @@ impl<F: Fn(&View<'_>) -> bool + Drop> Debugger<F> {
     {
         Ok(Debugger {
             stepper: Stepper::open(alloc, bytes)?,
+            breaks: Breakpoints::new(),
+            watch,
+        })
+    }
+
+    /// A debugger of the stream that a reader has, read to its end, before its first step. Its bytes are held once.
+    ///
+    /// # Errors
+    ///
+    /// `ReadFault` (304): a read failed, or there were too many. `NoMemory`.
+    pub fn read<R: ReadDevice>(
+        alloc: Global,
+        reader: &mut R,
+        watch: Watch<F>,
+    ) -> Result<Self, OpenError>
+        ensures stepper { IfOk result (λ debugger. IsReadAtStart
+            (R.remaining reader.old) (R.remaining reader.new) debugger.stepper) }
+        ensures breaks { IfOk result (λ debugger. debugger.breaks ≡ no_breaks) }
+        ensures watch { IfOk result (λ debugger. debugger.watch ≡ watch) }
+        ensures cause { IfErr result (λ why. why ≡ OpenError.ReadFault
+            → ReadFails (R.failed reader.new) (R.reads reader.new)) }
+    {
+        Ok(Debugger {
+            stepper: Stepper::read(alloc, reader)?,
             breaks: Breakpoints::new(),
             watch,
         })
@@ -170,12 +199,14 @@ impl<F: Fn(&View<'_>) -> bool + Drop> Debugger<F> {
         self.breaks.clear(number)
     }
 
-    /// What can be seen of the state of now. After `Failed` nothing is said.
+    /// What can be seen of the state of now: behind k steps that of item k of the trace, by its number. After `Failed` nothing is said.
     pub fn state(&self) -> View<'_>
         ensures view { IfSome self.now.stepper.job.machine (λ machine.
             result ≡ view_of result.stack machine) }
         ensures stack { IfSome self.now.stepper.job.machine
             (λ machine. result.stack.now ≡ machine.state.cursor.stack) }
+        ensures item { (bytes : List ℕ) (items : List StepResult)
+            → StandsBehind bytes items self.now.stepper → ShowsItem result items }
     {
         self.stepper.view()
     }

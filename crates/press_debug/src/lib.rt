@@ -10,6 +10,6 @@ mod watch;
 
 pub use breakpoints::{Break, MOST_BREAKS};
 pub use debugger::{Debugger, Stop, WATCH};
-pub use fault::BreakError;
+pub use fault::{BreakError, OpenError};
 pub use stepper::{RECENT, Stepper, Taken};
 pub use watch::Watch;

@@ -1,12 +1,17 @@
 //! A stream whose end was given, carried out step by step (PCL 5 Printer Language Technical Reference Manual, Macros).
 
-ghost use Rattle.std.specs.Prelude.{◌≡◌, IfOk, IfSome};
+ghost use Rattle.std.specs.Prelude.{◌≡◌, IfErr, IfOk, IfSome, List, OnOk, ℕ};
+ghost use Rattle.std.specs.Io.KnownBytes.{Consumes, IsAtEnd};
+ghost use Rattle.press_devices.specs.Reading.{ReadFails};
 ghost use Rattle.press_engine.specs.Engine.{view_of};
-ghost use Rattle.press_stream.specs.State.{IsOver};
+ghost use Rattle.press_stream.specs.State.{IsOver, opened, with_piece};
+ghost use Rattle.press_debug.specs.declared.fault.OpenError.{OpenError};
 
+use crate::fault::OpenError;
 use circular_buffer::HeapCircularBuffer;
 use press_canvas::Canvas;
 use press_cmd::Kind;
+use press_devices::{PIECE, ReadCount, ReadDevice, read_next};
 use press_engine::View;
 use press_engine::laws::{at_most_four_bodies, trace_tells_the_run};
 use press_stream::laws::what_is_left;
@@ -55,18 +60,43 @@ impl Model for Stepper {
 impl Stepper {
     ghost use Rattle.std.specs.Prelude.{◌≤◌, length, slice_get, IsTrue, IsFalse, IsSome, None, ◌↔◌, [], option_map};
     ghost use Rattle.press_debug.specs.declared.stepper.Taken.TheVariants.{Steps, Nothing, Fault};
-    ghost use Rattle.press_debug.specs.Steps.{at_start, Advances, TakesOne, TakesOver, IsOutside, IsDeeper, IsBack, Remains, most_recent};
+    ghost use Rattle.press_debug.specs.Steps.{at_start, IsReadAtStart, Advances, TakesOne, TakesOver, IsOutside, IsDeeper, IsBack, Remains, most_recent};
 
     /// A stream of these bytes, of which no step was taken.
     pub fn open(alloc: Global, bytes: &[u8]) -> Result<Self, AllocError>
         ensures { IfOk result (λ stepper. stepper ≡ at_start bytes.now) }
     {
-        at_most_four_bodies();
-        trace_tells_the_run();
         let mut job = Job::open(alloc)?;
         if job.push(bytes).is_err() {
             return Err(AllocError);
         }
+        Stepper::of(alloc, job)
+    }
+
+    /// The stream that a reader has, read to its end, of which no step was taken. Its bytes are held once.
+    ///
+    /// # Errors
+    ///
+    /// `ReadFault` (304): a read failed, or there were too many. `NoMemory`.
+    pub fn read<R: ReadDevice>(alloc: Global, reader: &mut R) -> Result<Self, OpenError>
+        ensures stream { IfOk result
+            (IsReadAtStart (R.remaining reader.old) (R.remaining reader.new)) }
+        ensures cause { IfErr result (λ why. why ≡ OpenError.ReadFault
+            → ReadFails (R.failed reader.new) (R.reads reader.new)) }
+    {
+        let mut job = Job::open(alloc)?;
+        push_all(&mut job, reader)?;
+        Ok(Stepper::of(alloc, job)?)
+    }
+
+    /// The stream of a job that holds all its bytes, of which no step was taken.
+    fn of(alloc: Global, mut job: Job) -> Result<Self, AllocError>
+        requires { (bytes : List ℕ) × (job ≡ with_piece bytes opened) }
+        ensures { IfOk result (λ stepper. (bytes : List ℕ) → job ≡ with_piece bytes opened
+            → stepper ≡ at_start bytes) }
+    {
+        at_most_four_bodies();
+        trace_tells_the_run();
         job.end_input();
         Ok(Stepper {
             job,
@@ -172,5 +202,27 @@ impl Stepper {
         ensures few { length self.now.recent ≤ most_recent }
     {
         self.recent.get(index).copied()
+    }
+}
+
+/// Hands a job all that a reader has.
+fn push_all<R: ReadDevice>(job: &mut Job, reader: &mut R) -> Result<(), OpenError>
+    requires { job.old ≡ opened }
+    ensures holds { OnOk result ((bytes : List ℕ)
+        × Consumes (R.remaining reader.old) (R.remaining reader.new) bytes
+        × IsAtEnd (R.remaining reader.new) × (job.new ≡ with_piece bytes opened)) }
+    ensures cause { IfErr result (λ why. why ≡ OpenError.ReadFault
+        → ReadFails (R.failed reader.new) (R.reads reader.new)) }
+{
+    let mut count = ReadCount::none();
+    let mut piece = [0; PIECE];
+    loop {
+        let length = read_next(reader, &mut piece, &mut count)?;
+        if length == 0 {
+            return Ok(());
+        }
+        if job.push(&piece[..length]).is_err() {
+            return Err(OpenError::NoMemory);
+        }
     }
 }

@@ -1,5 +1,5 @@
 -- Worked breakpoints, computed: which state meets one, the lowest free number, what is refused, the last kinds.
-use Rattle.std.proofs.Common.{◌≡◌, ◌∙◌, ℕ, ◌==◌, Bool, true, false, nat_le, [], ◌∷◌, List, replicate, slice_set, Option, Some, None, refl, ap}
+use Rattle.std.proofs.Common.{◌≡◌, ℕ, ◌==◌, true, false, nat_le, ◌∷◌, List, replicate, slice_set, Option, Some, None, refl, ap}
 use Rattle.circular_buffer.specs.Buffer.{keep_last}
 use Rattle.press_cmd.specs.declared.variant.Kind.{Kind}
 use Rattle.press_cmd.specs.declared.variant.Kind.TheVariants as kinds
