@@ -96,20 +96,20 @@ pub help-other : (words : List Text) (found : Option Request) (refusal : Refusal
 help-other words None refusal result is other = rw is (λ none. absurd (omega (arith, none, other)))
 help-other words (Some request) refusal result is other = rw is tt
 
--- a refusal that ends with status 2 is none for want of memory
-refused-not-memory : (refusal : Refusal) → status_of refusal ≡ 2 → IsForMemory refusal → ⊥
-refused-not-memory (Words error) two memory = omega (arith, two, ap status_of_kind memory)
-refused-not-memory NoName two memory = absurd memory
-refused-not-memory (NoDefault text) two memory = absurd memory
+-- where memory ran out the status is 1
+memory-is-one : (refusal : Refusal) → IsForMemory refusal → status_of refusal ≡ 1
+memory-is-one (Words error) memory = ap status_of_kind memory
+memory-is-one NoName memory = absurd memory
+memory-is-one (NoDefault text) memory = absurd memory
 
 -- The refusal as it is told is that of the words, too.
-pub told-refused : (words : List Text) (refusal told : Refusal) → (told ≡ refusal) ⊎ ((status_of refusal ≡ 2) × (status_of told ≢ 0))
+pub told-refused : (words : List Text) (refusal told : Refusal) → (told ≡ refusal) ⊎ ((status_of refusal ≢ 1) × (status_of told ≡ 0 → status_of refusal ≡ 0))
     → IsForMemory refusal ⊎ (arguments words ≡ None) → IsForMemory told ⊎ (arguments words ≡ None)
 told-refused words refusal told (inl is) why = rw is why
-told-refused words refusal told (inr other) (inl memory) = absurd (refused-not-memory refusal other.0 memory)
+told-refused words refusal told (inr other) (inl memory) = absurd (other.0 (memory-is-one refusal memory))
 told-refused words refusal told (inr other) (inr none) = inr none
 
-pub told-help : (words : List Text) (refusal told : Refusal) → (told ≡ refusal) ⊎ ((status_of refusal ≡ 2) × (status_of told ≢ 0))
+pub told-help : (words : List Text) (refusal told : Refusal) → (told ≡ refusal) ⊎ ((status_of refusal ≢ 1) × (status_of told ≡ 0 → status_of refusal ≡ 0))
     → (status_of refusal ≡ 0 → AsksHelp words) → status_of told ≡ 0 → AsksHelp words
 told-help words refusal told (inl is) help zero = help (rw is at zero)
-told-help words refusal told (inr other) help zero = absurd (other.1 zero)
+told-help words refusal told (inr other) help zero = help (other.1 zero)

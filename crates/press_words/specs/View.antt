@@ -10,7 +10,7 @@ use Rattle.press_words.specs.declared.words.Output.TheVariants as outputs
 use Rattle.press_words.specs.declared.words.Request.{Request}
 use Rattle.press_words.specs.declared.words.Refusal.{Refusal}
 use Rattle.press_words.specs.declared.words.Refusal.TheVariants.{Words, NoName, NoDefault}
-use Rattle.press_words.specs.Words.{Source, Standard, FileNamed, Made, Listed, FilesBy, Answered, AsText, DebuggedOf, TracedOf, PageTo, StreamTo, JobTo, Arguments, press_app}
+use Rattle.press_words.specs.Words.{Source, Standard, FileNamed, Made, Listed, SummedOf, FilesBy, Answered, AsText, DebuggedOf, TracedOf, PageTo, StreamTo, JobTo, Arguments, press_app}
 
 -- an input by the text of its name
 abbrev pub source_seen : Input → Source
@@ -20,6 +20,7 @@ source_seen (inputs.File name) = FileNamed name.now
 -- an output by its texts
 abbrev pub made_seen : Output → Made
 made_seen (outputs.Listing prefix) = Listed prefix.items
+made_seen (outputs.Sums prefix) = SummedOf prefix.items
 made_seen (outputs.Files prefix template) = FilesBy prefix.items template.now
 made_seen (outputs.Session engines) = Answered engines
 made_seen outputs.Text = AsText

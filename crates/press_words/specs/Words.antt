@@ -17,13 +17,14 @@ pub data Source : Type 0 where
   FileNamed : Text → Source
 
 -- What is made of an input. A prefix is bytes that stand in front of the stream.
--- Listed: the listing of a stream. FilesBy: the files of a stream, named by a template. AsText: the assembly text of a stream. TracedOf:
+-- Listed: the listing of a stream. SummedOf: the same with a digest of each side. FilesBy: the files of a stream, named by a template. AsText: the assembly text of a stream. TracedOf:
 -- the trace of a stream. PageTo: the file of this name, of the page that is open behind so many steps of a stream. DebuggedOf: a
 -- debugger's answers to lines, over the stream of this file. Answered: the answers of a press with so many engines to lines of events,
 -- and the listing of what it delivered. StreamTo: the file of this name, of an assembly text. JobTo: the file of this name, the job of a
 -- ticket with the images of these files.
 pub data Made : Type 0 where
   Listed : (prefix : List ℕ) → Made
+  SummedOf : (prefix : List ℕ) → Made
   FilesBy : (prefix : List ℕ) (template : Text) → Made
   Answered : (engines : ℕ) → Made
   AsText : Made
@@ -42,15 +43,18 @@ pub record Arguments : Type 0 where
 abbrev pub default_rule : Rule
 default_rule = record (new_rule (codes "default")) { long = Some (codes "default"); action = Some Append; value_names = 1 }
 
--- The words of `print`: the flag of a listing, any number of defaults, the input, and the template.
+-- The words of `print`: the flag of a listing, that of one with digests, any number of defaults, the input, and the template.
 abbrev pub list_rule : Rule
 list_rule = record (new_rule (codes "list")) { long = Some (codes "list"); action = Some SetTrue }
+
+abbrev pub sums_rule : Rule
+sums_rule = record (new_rule (codes "sums")) { long = Some (codes "sums"); action = Some SetTrue }
 
 abbrev pub needed_rule : Text → Rule
 needed_rule id = record (new_rule id) { required = true }
 
 abbrev pub print_app : App
-print_app = with_rule (with_rule (with_rule (with_rule (new_app (codes "print")) list_rule) default_rule) (needed_rule (codes "IN"))) (new_rule (codes "OUT"))
+print_app = with_rule (with_rule (with_rule (with_rule (with_rule (new_app (codes "print")) list_rule) sums_rule) default_rule) (needed_rule (codes "IN"))) (new_rule (codes "OUT"))
 
 -- The words of `asm`: the input and the output.
 abbrev pub asm_app : App
@@ -114,9 +118,10 @@ defaults_of rows = unwrap_or (all_of (codes "default") rows) []
 abbrev pub prefix_in : List Row → Option (List ℕ)
 prefix_in rows = if list_all is_assignment (defaults_of rows) then Some (prefix_of (defaults_of rows)) else None
 
--- with the flag a listing, whatever the template; without it there has to be a template
+-- with a flag a listing, with digests where those are asked for, whatever the template; without one there has to be a template
 abbrev pub made_behind : List Row → (prefix : List ℕ) → Option Made
-made_behind rows prefix = if is_set (codes "list") rows then Some (Listed prefix) else option_map (FilesBy prefix) (first_of (codes "OUT") rows)
+made_behind rows prefix =
+    if is_set (codes "sums") rows then Some (SummedOf prefix) else if is_set (codes "list") rows then Some (Listed prefix) else option_map (FilesBy prefix) (first_of (codes "OUT") rows)
 
 abbrev pub made_of : List Row → Option Made
 made_of rows = option_and_then (made_behind rows) (prefix_in rows)

@@ -1,9 +1,9 @@
 //! The words of the command line, and what they ask for.
 ghost use Rattle.std.specs.Prelude.{◌≡◌, ◌≢◌, ◌⊎◌, IfOk, IfErr, Some, None, map, option_map, option_and_then, codes, false};
-ghost use Rattle.clap.specs.Words.{app_of, rule_of, new_rule, kind_of, rows_of, found_of, subcommand_of, subcommand_rows_of, fault_of, FailsBy};
+ghost use Rattle.clap.specs.Words.{app_of, rule_of, new_app, new_rule, with_rule, kind_of, rows_of, found_of, subcommand_of, subcommand_rows_of, fault_of, FailsBy};
 ghost use Rattle.clap.specs.declared.builder.command.Command.TheViews.{out-Command};
 ghost use Rattle.clap.specs.declared.error.kind.ErrorKind.TheVariants.{OutOfMemory};
-ghost use Rattle.press_words.specs.Words.{list_rule, default_rule, needed_rule, images_rule, engines_rule, print_app, asm_app, disasm_app, debug_app, trace_app, page_app, write_app, session_app, program_app, press_app, source_of, made_behind, made_of, made_named, made_in, images_of, defaults_of, prefix_in, engines_of, print_arguments, asm_arguments, disasm_arguments, debug_of, debug_arguments, trace_arguments, steps_in, page_to, page_arguments, job_arguments, session_arguments, subcommand_named, arguments_of, arguments_by, arguments, is_set};
+ghost use Rattle.press_words.specs.Words.{list_rule, sums_rule, default_rule, needed_rule, images_rule, engines_rule, print_app, asm_app, disasm_app, debug_app, trace_app, page_app, write_app, session_app, program_app, press_app, source_of, made_behind, made_of, made_named, made_in, images_of, defaults_of, prefix_in, engines_of, print_arguments, asm_arguments, disasm_arguments, debug_of, debug_arguments, trace_arguments, steps_in, page_to, page_arguments, job_arguments, session_arguments, subcommand_named, arguments_of, arguments_by, arguments, is_set};
 ghost use Rattle.press_words.specs.View.{AsksHelp, source_seen, made_seen, request_seen, status_of, IsForMemory};
 
 use crate::defaults::{are_assignments, prefix_of};
@@ -18,6 +18,9 @@ use std::fmt;
 
 /// The status after words that are refused.
 pub const REFUSED: u8 = 2;
+
+/// The status with which the program ends where memory ran out.
+const WANT_OF_MEMORY: u8 = 1;
 
 /// The version of the program, and the kit that proved it.
 const VERSION: &str = "1.0.0 (proved by rattle-kit-13f)";
@@ -76,6 +79,8 @@ pub enum Input<'a> {
 pub enum Output<'a> {
     /// A listing of the sheets and the replies of a stream, with these bytes in front of it.
     Listing(Vec<u8>),
+    /// A listing of the sheets and the replies of a stream with these bytes in front of it, with a digest of each side.
+    Sums(Vec<u8>),
     /// A file for each side of a stream, with these bytes in front of it, by this template.
     Files(Vec<u8>, &'a str),
     /// The answers to lines of events, of a press with so many engines, and the listing of the sheets that it then delivered.
@@ -130,7 +135,7 @@ impl Refusal {
         ensures { result ≡ status_of self.now }
     {
         match self {
-            Refusal::Words(error) if error.kind() == ErrorKind::OutOfMemory => 1,
+            Refusal::Words(error) if error.kind() == ErrorKind::OutOfMemory => WANT_OF_MEMORY,
             Refusal::Words(error) if !error.use_stderr() => 0,
             _ => REFUSED,
         }
@@ -172,6 +177,17 @@ fn list_flag<'a>(alloc: Global) -> Arg<'a>
         .help("Lists the sheets and writes no file")
 }
 
+/// The flag that asks for a listing with digests.
+fn sums_flag<'a>(alloc: Global) -> Arg<'a>
+    ensures rule { rule_of result ≡ sums_rule }
+    ensures local { result.global ≡ false }
+{
+    Arg::new(alloc, "sums")
+        .long("sums")
+        .action(ArgAction::SetTrue)
+        .help("Lists the sheets, with the SHA-256 of the file of each side behind its line")
+}
+
 /// The option of a default.
 fn default_option<'a>(alloc: Global) -> Arg<'a>
     ensures rule { rule_of result ≡ default_rule }
@@ -203,14 +219,24 @@ fn template_word<'a>(alloc: Global) -> Arg<'a>
     )
 }
 
-/// The subcommand `print`.
-fn print_command<'a>(alloc: Global) -> Result<Command<'a>, AllocError>
-    ensures app { IfOk result (λ command. app_of command ≡ print_app) }
+/// The subcommand `print`, with its flags.
+fn flagged_command<'a>(alloc: Global) -> Result<Command<'a>, AllocError>
+    ensures app { IfOk result (λ command. app_of command
+        ≡ with_rule (with_rule (new_app (codes "print")) list_rule) sums_rule) }
     ensures local { IfOk result (λ command. (out-Command command).has_globals ≡ false) }
 {
     Command::new(alloc, "print")
         .about("Prints a stream to a P4 file (raw PBM) for each side, or lists its sheets")
         .arg(list_flag(alloc))?
+        .arg(sums_flag(alloc))
+}
+
+/// The subcommand `print`.
+fn print_command<'a>(alloc: Global) -> Result<Command<'a>, AllocError>
+    ensures app { IfOk result (λ command. app_of command ≡ print_app) }
+    ensures local { IfOk result (λ command. (out-Command command).has_globals ≡ false) }
+{
+    flagged_command(alloc)?
         .arg(default_option(alloc))?
         .arg(needed_word(
             alloc,
@@ -447,6 +473,9 @@ fn output_behind<'a>(prefix: Vec<u8>, matches: &ArgMatches<'a>) -> Option<Output
     ensures { option_map made_seen result
         ≡ made_behind (rows_of (found_of matches.now)) prefix.items }
 {
+    if has_flag(matches, "sums") {
+        return Some(Output::Sums(prefix));
+    }
     if has_flag(matches, "list") {
         return Some(Output::Listing(prefix));
     }
@@ -784,10 +813,11 @@ pub fn request_of<'a>(alloc: Global, words: &'a [&'a str]) -> Result<Request<'a>
     }
 }
 
-/// The refusal of words as it is told: where the command line refuses words that have control characters, that of the words as they are
-/// told.
+/// The refusal of words as it is told: where the command line refuses words that have control characters, or answers help to them, that
+/// of the words as they are told. The name by which the program was called is one of them.
 fn as_told(alloc: Global, words: &[&str], refusal: Refusal) -> Refusal
-    ensures { (result ≡ refusal) ⊎ ((status_of refusal ≡ 2) × (status_of result ≢ 0)) }
+    ensures { (result ≡ refusal) ⊎ ((status_of refusal ≢ 1)
+        × (status_of result ≡ 0 → status_of refusal ≡ 0)) }
 {
     match refusal {
         Refusal::Words(error) => refused_as_told(alloc, words, error),
@@ -797,16 +827,17 @@ fn as_told(alloc: Global, words: &[&str], refusal: Refusal) -> Refusal
 
 /// The same of an error of the command line.
 fn refused_as_told(alloc: Global, words: &[&str], error: Error) -> Refusal
-    ensures { (result ≡ Refusal.Words error)
-        ⊎ ((status_of (Refusal.Words error) ≡ 2) × (status_of result ≢ 0)) }
+    ensures { (result ≡ Refusal.Words error) ⊎ ((status_of (Refusal.Words error) ≢ 1)
+        × (status_of result ≡ 0 → status_of (Refusal.Words error) ≡ 0)) }
 {
     let refusal = Refusal::Words(error);
-    if refusal.status() != REFUSED || !has_controls(words) {
+    let status = refusal.status();
+    if status == WANT_OF_MEMORY || !has_controls(words) {
         return refusal;
     }
     if let Err(again) = parse_as_told(alloc, words) {
         let told = Refusal::Words(again);
-        if told.status() != 0 {
+        if status == 0 || told.status() != 0 {
             return told;
         }
     }

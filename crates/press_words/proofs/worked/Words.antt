@@ -1,7 +1,7 @@
 -- What some words ask for.
 use Rattle.std.specs.Prelude.{◌≡◌, [], ◌∷◌, Some, None, codes, refl}
 use Rattle.clap.proofs.OnLiterals.{clap_on_literals}
-use Rattle.press_words.specs.Words.{Standard, FileNamed, Listed, FilesBy, Answered, AsText, DebuggedOf, TracedOf, PageTo, StreamTo, JobTo, arguments}
+use Rattle.press_words.specs.Words.{Standard, FileNamed, Listed, SummedOf, FilesBy, Answered, AsText, DebuggedOf, TracedOf, PageTo, StreamTo, JobTo, arguments}
 
 nothing : arguments (codes "press" ∷ []) ≡ Some (record { source = Standard; made = Listed [] })
 nothing = refl
@@ -9,6 +9,15 @@ nothing = refl
 listing : arguments (codes "press" ∷ codes "print" ∷ codes "--list" ∷ codes "-" ∷ []) ≡ Some (record { source = Standard; made = Listed [] })
 unfolding clap_on_literals
 listing = refl
+
+-- with digests, by the one flag and by both
+sums : arguments (codes "press" ∷ codes "print" ∷ codes "--sums" ∷ codes "-" ∷ []) ≡ Some (record { source = Standard; made = SummedOf [] })
+unfolding clap_on_literals
+sums = refl
+
+listing_with_sums : arguments (codes "press" ∷ codes "print" ∷ codes "--list" ∷ codes "--sums" ∷ codes "a.pcl" ∷ []) ≡ Some (record { source = FileNamed (codes "a.pcl"); made = SummedOf [] })
+unfolding clap_on_literals
+listing_with_sums = refl
 
 listing_with_template : arguments (codes "press" ∷ codes "print" ∷ codes "a.pcl" ∷ codes "b" ∷ codes "--list" ∷ []) ≡ Some (record { source = FileNamed (codes "a.pcl"); made = Listed [] })
 unfolding clap_on_literals
