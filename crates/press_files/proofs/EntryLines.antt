@@ -1,6 +1,6 @@
 -- Lines of the sheets of entries, one sheet after another.
 use Rattle.std.proofs.Common.{◌≡◌, ◌∙◌, ◌<◌, ℕ, ◌+◌, List, [], ◌∷◌, ◌++◌, length, drop}
-use Rattle.std.proofs.Common.{get_or, Option, Some, None, option_map, codes, refl, sym, ap}
+use Rattle.std.proofs.Common.{get_or, Bool, false, Option, Some, None, option_map, codes, refl, sym, ap}
 use Rattle.std.proofs.lemmas.List.{append_assoc, at_drop_more}
 use Rattle.press_bits.specs.Page.{Page}
 use Rattle.press_files.specs.declared.entry_sheets.EntrySheet.{EntrySheet}
@@ -8,7 +8,7 @@ use Rattle.press_files.specs.declared.listed_sheet.ListedSheet.{ListedSheet}
 use Rattle.press_files.specs.declared.measures.Measures.{Measures}
 use Rattle.press_files.specs.EntryListing.{entry_measured_line, entry_back_line, entry_sheet_lines, entry_lines, entry_listing_after}
 use Rattle.press_files.specs.EntrySheets.{entries_of, numbers_of, entry_deliveries_of}
-use Rattle.press_files.specs.Measured.{measures_of}
+use Rattle.press_files.specs.Measured.{measures_of, measures_by}
 use Rattle.press_files.specs.Numbering.{occurrences_of, numbers_after}
 use Rattle.press_files.proofs.ListingLemmas.{kept_line}
 
@@ -21,15 +21,15 @@ back_line-kept : (entry number : ℕ) (back : Option Page)
 back_line-kept entry number None = refl
 back_line-kept entry number (Some back) = refl
 
-pub entry_sheet_lines-kept : (entry number : ℕ) (one : ListedSheet)
+pub entry_sheet_lines-kept : (entry number : ℕ) (one : ListedSheet) → one.sums ≡ false
     → entry_measured_line entry number (codes "front") one.front ++ kept_line (entry_measured_line entry number (codes "back")) one.back
     ≡ entry_sheet_lines entry number one.sheet.value
-entry_sheet_lines-kept entry number one =
+entry_sheet_lines-kept entry number one plain =
     ap (λ (front : Measures).
     entry_measured_line entry number (codes "front") front ++ kept_line (entry_measured_line entry number (codes "back")) one.back)
-    one.front_measured
+    (one.front_measured ∙ ap (λ (sums : Bool). measures_by sums one.sheet.value.front) plain)
     ∙ ap (λ back. entry_measured_line entry number (codes "front") (measures_of one.sheet.value.front) ++ back)
-    (ap (kept_line (entry_measured_line entry number (codes "back"))) one.back_measured
+    (ap (kept_line (entry_measured_line entry number (codes "back"))) (one.back_measured ∙ ap (λ (sums : Bool). option_map (measures_by sums) one.sheet.value.back) plain)
     ∙ sym (back_line-kept entry number one.sheet.value.back))
 
 -- one sheet more was listed

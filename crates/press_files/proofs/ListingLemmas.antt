@@ -25,8 +25,8 @@ use Rattle.press_stream.specs.Answers.{Reads, fault_of, ending_by}
 use Rattle.press_stream.specs.Printed.{Printed}
 use Rattle.press_files.specs.declared.listed_sheet.ListedSheet.{ListedSheet}
 use Rattle.press_files.specs.declared.measures.Measures.{Measures}
-use Rattle.press_files.specs.Listing.{HasListed, measured_line, back_line, sheet_lines, lines_from, Lists, took, ListsPrinted, status_of_listing}
-use Rattle.press_files.specs.Measured.{measures_of}
+use Rattle.press_files.specs.Listing.{HasListed, measured_line, back_line, sheet_lines, lines_from, ListsBy, took, ListsPrinted, status_of_listing}
+use Rattle.press_files.specs.Measured.{measures_by}
 use Rattle.press_files.specs.Printing.{machine_of, status_of_fault}
 
 -- the line of a back of which this was kept, if there is one
@@ -34,32 +34,32 @@ abbrev pub kept_line : (line : Measures → List ℕ) → Option Measures → Li
 kept_line line None = []
 kept_line line (Some back) = line back
 
-back_line-kept : (number : ℕ) (back : Option Page)
-    → back_line number back ≡ kept_line (measured_line number (codes "back")) (option_map measures_of back)
-back_line-kept number None = refl
-back_line-kept number (Some back) = refl
+back_line-kept : (sums : Bool) (number : ℕ) (back : Option Page)
+    → back_line sums number back ≡ kept_line (measured_line number (codes "back")) (option_map (measures_by sums) back)
+back_line-kept sums number None = refl
+back_line-kept sums number (Some back) = refl
 
 -- the lines of a sheet are those of what was kept of its sides
 pub sheet_lines-kept : (number : ℕ) (one : ListedSheet)
     → measured_line number (codes "front") one.front ++ kept_line (measured_line number (codes "back")) one.back
-    ≡ sheet_lines number one.sheet.value
+    ≡ sheet_lines one.sums number one.sheet.value
 sheet_lines-kept number one =
     ap (λ (front : Measures). measured_line number (codes "front") front ++ kept_line (measured_line number (codes "back")) one.back)
     one.front_measured
-    ∙ ap (λ back. measured_line number (codes "front") (measures_of one.sheet.value.front) ++ back)
-    (ap (kept_line (measured_line number (codes "back"))) one.back_measured ∙ sym (back_line-kept number one.sheet.value.back))
+    ∙ ap (λ back. measured_line number (codes "front") (measures_by one.sums one.sheet.value.front) ++ back)
+    (ap (kept_line (measured_line number (codes "back"))) one.back_measured ∙ sym (back_line-kept one.sums number one.sheet.value.back))
 
 -- the lines of one sheet more
-pub lines_from-push : (number : ℕ) (sheets : List PrintedSheet) (sheet : PrintedSheet)
-    → lines_from number (sheets ++ sheet ∷ []) ≡ lines_from number sheets ++ sheet_lines (number + length sheets) sheet
-lines_from-push number [] sheet =
-    append-nil (sheet_lines number sheet) ∙ ap (λ (n : ℕ). sheet_lines n sheet) (sym (plus-zero number)) where
+pub lines_from-push : (sums : Bool) (number : ℕ) (sheets : List PrintedSheet) (sheet : PrintedSheet)
+    → lines_from sums number (sheets ++ sheet ∷ []) ≡ lines_from sums number sheets ++ sheet_lines sums (number + length sheets) sheet
+lines_from-push sums number [] sheet =
+    append-nil (sheet_lines sums number sheet) ∙ ap (λ (n : ℕ). sheet_lines sums n sheet) (sym (plus-zero number)) where
       plus-zero : (n : ℕ) → n + 0 ≡ n
       plus-zero n = omega arith
-lines_from-push number (first ∷ sheets) sheet =
-    ap (λ (rest : List ℕ). sheet_lines number first ++ rest) (lines_from-push (number + 1) sheets sheet)
-    ∙ sym (append_assoc (sheet_lines number first) (lines_from (number + 1) sheets) (sheet_lines (number + 1 + length sheets) sheet))
-    ∙ ap (λ (n : ℕ). (sheet_lines number first ++ lines_from (number + 1) sheets) ++ sheet_lines n sheet) (next number (length sheets)) where
+lines_from-push sums number (first ∷ sheets) sheet =
+    ap (λ (rest : List ℕ). sheet_lines sums number first ++ rest) (lines_from-push sums (number + 1) sheets sheet)
+    ∙ sym (append_assoc (sheet_lines sums number first) (lines_from sums (number + 1) sheets) (sheet_lines sums (number + 1 + length sheets) sheet))
+    ∙ ap (λ (n : ℕ). (sheet_lines sums number first ++ lines_from sums (number + 1) sheets) ++ sheet_lines sums n sheet) (next number (length sheets)) where
       next : (n m : ℕ) → n + 1 + m ≡ n + suc m
       next n m = omega arith
 
@@ -69,13 +69,13 @@ read_all bytes None read reads = absurd reads.lost
 read_all bytes (Some rest) read reads = sym (reads.lost ∙ ap (λ last. read ++ last) (reads.at_end refl) ∙ append-nil read)
 
 -- what the sinks took of a stream that was printed, where it had no fault and its listing was written
-pub lists-printed : (front : List ℕ) (printed : Result JobState JobError) (written : Bool) (known left old new : Option (List ℕ))
-    → ListsPrinted front printed written known left old new → status_of_listing (fault_of printed) written ≡ 0
-    → IfSome known (λ bytes. Lists (front ++ bytes) old new)
-lists-printed front printed false known left old new stream zero = absurd cc
-lists-printed front (Err error) true known left old new stream zero = absurd cc
-lists-printed front (Ok job) true None left old new stream zero = tt
-lists-printed front (Ok job) true (Some bytes) left old new stream zero =
+pub lists-printed : (sums : Bool) (front : List ℕ) (printed : Result JobState JobError) (written : Bool) (known left old new : Option (List ℕ))
+    → ListsPrinted sums front printed written known left old new → status_of_listing (fault_of printed) written ≡ 0
+    → IfSome known (λ bytes. ListsBy sums (front ++ bytes) old new)
+lists-printed sums front printed false known left old new stream zero = absurd cc
+lists-printed sums front (Err error) true known left old new stream zero = absurd cc
+lists-printed sums front (Ok job) true None left old new stream zero = tt
+lists-printed sums front (Ok job) true (Some bytes) left old new stream zero =
     let printed = stream.prints.is.printed in
     let took = stream.prints.took in
     let commands = printed.commands in
@@ -90,8 +90,8 @@ lists-printed front (Ok job) true (Some bytes) left old new stream zero =
     let S : List ℕ → Type 0 = λ all. Closed (front ++ all) commands in (
       commands,
       subst S (read_all bytes left stream.prints.is.bytes stream.prints.is.read) printed.closed,
-      subst R (ap (λ (all : List PrintedSheet). lines_from 1 all ++ stream.replies) all_sheets
-          ∙ ap (λ (all : List ℕ). lines_from 1 sheets ++ all) all_replies)
+      subst R (ap (λ (all : List PrintedSheet). lines_from sums 1 all ++ stream.replies) all_sheets
+          ∙ ap (λ (all : List ℕ). lines_from sums 1 sheets ++ all) all_replies)
           (stream.lists refl),
     )
 
@@ -117,16 +117,16 @@ listed-then result true now old middle new bytes more ok is listed writes = list
 listed-then result false now old middle new bytes more ok is listed writes = absurd (true≢false (sym ok))
 
 -- the lines of a sheet more
-pub listed-sheet : (written : Bool) (old new : Option (List ℕ)) (taken taken' : List Delivery) (one : Delivery) (number : ℕ)
+pub listed-sheet : (sums : Bool) (written : Bool) (old new : Option (List ℕ)) (taken taken' : List Delivery) (one : Delivery) (number : ℕ)
     → taken' ≡ taken ++ one ∷ [] → number ≡ 1 + length taken
-    → HasListed written old new (lines_from 1 (sheets_in taken) ++ sheet_lines number one.sheet)
-    → HasListed written old new (lines_from 1 (sheets_in taken'))
-listed-sheet written old new taken taken' one number is counts listed =
+    → HasListed written old new (lines_from sums 1 (sheets_in taken) ++ sheet_lines sums number one.sheet)
+    → HasListed written old new (lines_from sums 1 (sheets_in taken'))
+listed-sheet sums written old new taken taken' one number is counts listed =
     let sheets = sheets_in taken in
     let more : sheets_in taken' ≡ sheets ++ one.sheet ∷ [] = ap sheets_in is ∙ map-append _ taken (one ∷ []) in
     let long : number ≡ 1 + length sheets = counts ∙ ap (λ (n : ℕ). 1 + n) (sym (length-map taken _)) in
-    let lines : lines_from 1 sheets ++ sheet_lines number one.sheet ≡ lines_from 1 (sheets_in taken') =
-    ap (λ (n : ℕ). lines_from 1 sheets ++ sheet_lines n one.sheet) long ∙ sym (lines_from-push 1 sheets one.sheet) ∙ ap (lines_from 1) (sym more) in
+    let lines : lines_from sums 1 sheets ++ sheet_lines sums number one.sheet ≡ lines_from sums 1 (sheets_in taken') =
+    ap (λ (n : ℕ). lines_from sums 1 sheets ++ sheet_lines sums n one.sheet) long ∙ sym (lines_from-push sums 1 sheets one.sheet) ∙ ap (lines_from sums 1) (sym more) in
     subst (HasListed written old new) lines listed
 
 -- That all of it was written, or a prefix, is a fact: how it came to be so, there is one way to tell.
@@ -165,19 +165,19 @@ listed-cut true old new bytes listed is = absurd (true≢false is)
 listed-cut false old new bytes listed is = listed
 
 -- what the sinks tell, and what is listed of it
-pub lists-stream : (front : List ℕ) (printed : Result JobState JobError) (written : Bool)
+pub lists-stream : (sums : Bool) (front : List ℕ) (printed : Result JobState JobError) (written : Bool)
     (had left old new : Option (List ℕ)) (first last : List Delivery) (nothing all replies : List ℕ)
     → first ≡ [] → nothing ≡ [] → all ≡ replies
     → HandsOut (ending_by (fault_of printed)) (Printed front had left (fault_of printed) (machine_of printed))
     (under 0 (took first nothing) (took last all))
-    → ∥ HasListed written old new (lines_from 1 (sheets_in last) ++ replies) ∥₁ → ListsPrinted front printed written had left old new
-lists-stream front printed written had left old new first last nothing all replies p q s prints listed =
+    → ∥ HasListed written old new (lines_from sums 1 (sheets_in last) ++ replies) ∥₁ → ListsPrinted sums front printed written had left old new
+lists-stream sums front printed written had left old new first last nothing all replies p q s prints listed =
     let P : SinkLog → SinkLog → Type 0 =
     λ before after.
     HandsOut (ending_by (fault_of printed)) (Printed front had left (fault_of printed) (machine_of printed)) (under 0 before after) in
     let begun : took first nothing ≡ took [] [] = cc (p, q) in
     let ended : took last all ≡ took last replies = cc s in
-    let fact = listed-fact written old new (lines_from 1 (sheets_in last) ++ replies) listed in
+    let fact = listed-fact written old new (lines_from sums 1 (sheets_in last) ++ replies) listed in
     record {
       deliveries = last;
       replies = replies;

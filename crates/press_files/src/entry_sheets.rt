@@ -1,5 +1,5 @@
 //! The sheets of the entries of a press, of which the listing keeps what it tells.
-ghost use Rattle.std.specs.Prelude.{◌≡◌, ℕ, [], map, nat_eq, unwrap_or};
+ghost use Rattle.std.specs.Prelude.{◌≡◌, ℕ, [], false, map, nat_eq, unwrap_or};
 ghost use Rattle.std.specs.Map.{lookup};
 ghost use Rattle.press_files.specs.Numbering.{occurrences_of, numbers_after};
 
@@ -13,6 +13,7 @@ use std::alloc::{AllocError, Global};
 pub struct EntrySheet {
     pub number: usize,
     pub sheet: ListedSheet,
+    ghost plain: { sheet.sums ≡ false },
 }
 
 /// A sheet sink that keeps of each sheet what the listing tells, in the order of delivery, and numbers the sheets of each
@@ -60,6 +61,7 @@ impl EntrySheets {
 
     /// Keeps what the listing tells of a sheet, under the next number of its entry.
     fn keep(&mut self, sheet: ListedSheet) -> Result<(), AllocError>
+        requires { sheet.sums ≡ false }
         ensures ok { OnOk result (entry_deliveries_of (kept self.new)
             ≡ entry_deliveries_of (kept self.old) ++ delivery_of sheet ∷ []) }
         ensures err { OnErr result (kept self.new ≡ kept self.old) }
@@ -84,7 +86,7 @@ impl SheetSink for EntrySheets {
     }
 
     fn deliver(&mut self, tag: u64, sheet: &Sheet) -> Result<(), SinkError> {
-        self.keep(ListedSheet::of(tag, sheet))
+        self.keep(ListedSheet::of(tag, sheet, false))
             .map_err(|_| SinkError::NoMemory)
     }
 

@@ -1,6 +1,7 @@
 //! What the program reads and writes: inputs by their names, and the files and the listing of a stream.
 #![tactic(auto)]
 
+mod digest;
 mod entry_sheets;
 mod files;
 mod held_replies;
@@ -18,5 +19,5 @@ mod told_folder;
 pub use entry_sheets::EntrySheets;
 pub use files::{Finished, print_files};
 pub use inputs::{InputError, read_all};
-pub use listing::{Answered, list_delivered, print_list};
+pub use listing::{Answered, list_delivered, print_list, print_sums};
 pub use named_inputs::{NamedFile, NamedFiles, NamedInputs, open_named};

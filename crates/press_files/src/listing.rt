@@ -4,10 +4,11 @@ ghost use Rattle.press_files.specs.Change.{change};
 ghost use Rattle.press_devices.specs.Reading.{ReadFails};
 ghost use Rattle.press_devices.specs.Writing.{Writes};
 ghost use Rattle.press_files.specs.Causes.{failures};
-ghost use Rattle.press_files.specs.Listing.{measured_line, sheet_lines, Lists, ListsPrinted, PrintsListing};
+ghost use Rattle.press_files.specs.Listing.{measured_line, sheet_lines, Lists, ListsBy, ListsSums, ListsPrinted, PrintsListing, PrintsListingBy, PrintsSums};
 ghost use Rattle.press_files.specs.EntryListing.{entry_mark, entry_measured_line, entry_sheet_lines, entry_lines, entry_listing};
 ghost use Rattle.press_files.specs.EntrySheets.{kept, entry_deliveries_of};
 
+use crate::digest::digits_of;
 use crate::entry_sheets::{EntrySheet, EntrySheets};
 use crate::held_replies::HeldReplies;
 use crate::listed_sheet::ListedSheet;
@@ -51,7 +52,53 @@ pub fn print_list<R: ReadDevice, W: WriteDevice + Drop, E: Teller>(
         (change (R.remaining reader.old) (R.remaining reader.new))
         (change (W.contents out) (W.contents result.out)) }
 {
-    let stream = list_stream::<R, W, Brand>(alloc, front, reader, out);
+    list_by(alloc, front, reader, out, err, false)
+}
+
+/// Does the same, with the SHA-256 of each side behind its line: of the P4 file that `print` makes of it, as in
+/// `sheet 1 front 2550x3300 black 6 sha256 ..`.
+pub fn print_sums<R: ReadDevice, W: WriteDevice + Drop, E: Teller>(
+    alloc: Global,
+    front: &[u8],
+    reader: &mut R,
+    out: W,
+    err: &mut E,
+) -> Answered<W>
+    ensures status { result.status ≤ 1 }
+    ensures lists { result.status ≡ 0 → IfSome (R.remaining reader.old) (λ bytes.
+        ListsSums (front.now ++ bytes) (W.contents out) (W.contents result.out)) }
+    ensures flushed { result.status ≡ 0 → W.waiting result.out ≡ false }
+    ensures printed { PrintsSums
+        (failures (ReadFails (R.failed reader.new) (R.reads reader.new))
+        ⊥ (W.failed result.out ≡ true) ⊥) result.status front.now
+        (change (E.said err.old) (E.said err.new))
+        (change (R.remaining reader.old) (R.remaining reader.new))
+        (change (W.contents out) (W.contents result.out)) }
+{
+    list_by(alloc, front, reader, out, err, true)
+}
+
+/// Prints a stream and lists its sheets, with sums or without.
+fn list_by<R: ReadDevice, W: WriteDevice + Drop, E: Teller>(
+    alloc: Global,
+    front: &[u8],
+    reader: &mut R,
+    out: W,
+    err: &mut E,
+    sums: bool,
+) -> Answered<W>
+    ensures status { result.status ≤ 1 }
+    ensures lists { result.status ≡ 0 → IfSome (R.remaining reader.old) (λ bytes.
+        ListsBy sums (front.now ++ bytes) (W.contents out) (W.contents result.out)) }
+    ensures flushed { result.status ≡ 0 → W.waiting result.out ≡ false }
+    ensures printed { PrintsListingBy sums
+        (failures (ReadFails (R.failed reader.new) (R.reads reader.new))
+        ⊥ (W.failed result.out ≡ true) ⊥) result.status front.now
+        (change (E.said err.old) (E.said err.new))
+        (change (R.remaining reader.old) (R.remaining reader.new))
+        (change (W.contents out) (W.contents result.out)) }
+{
+    let stream = list_stream::<R, W, Brand>(alloc, front, reader, out, sums);
     let status = told_status(&stream.printed, err);
     if stream.written {
         return Answered {
@@ -79,16 +126,18 @@ fn list_stream<R: ReadDevice, W: WriteDevice + Drop, D: Unlisted>(
     front: &[u8],
     reader: &mut R,
     out: W,
+    sums: bool,
 ) -> ListedStream<W>
-    requires { W.contents out ≡ D.begun }
-    ensures lists { ListsPrinted front.now result.printed result.written (R.remaining reader.old)
+    requires begun { W.contents out ≡ D.begun }
+    requires sums { sums ≡ D.sums }
+    ensures lists { ListsPrinted D.sums front.now result.printed result.written (R.remaining reader.old)
         (R.remaining reader.new) D.begun (W.contents result.out) }
     ensures flushed { result.written ≡ true → W.waiting result.out ≡ false }
     ensures reads { IsErrOf result.printed JobError.ReadFault
         → ReadFails (R.failed reader.new) (R.reads reader.new) }
     ensures writes { result.written ≡ false → W.failed result.out ≡ true }
 {
-    let mut sheets: ListingSink<W, D> = ListingSink::new(out);
+    let mut sheets: ListingSink<W, D> = ListingSink::new(out, sums);
     let mut replies = HeldReplies::new(alloc);
     let printed = print_behind(alloc, front, reader, 0, &mut sheets, &mut replies);
     let ended = sheets.finish(replies.bytes());
@@ -106,7 +155,7 @@ pub(crate) fn list_sheet<W: WriteDevice>(
     sheet: &ListedSheet,
 ) -> io::Result<()>
     ensures written { Writes result (W.contents out.old) (W.contents out.new)
-        (sheet_lines number sheet.now.sheet.value) }
+        (sheet_lines sheet.now.sums number sheet.now.sheet.value) }
     ensures cause { OnErr result (W.failed out.new ≡ true) }
 {
     list_side(out, number, "front", &sheet.front)?;
@@ -128,6 +177,24 @@ fn list_side<W: WriteDevice>(
         (measured_line number side.now measures.now) }
     ensures cause { OnErr result (W.failed out.new ≡ true) }
 {
+    let Some(digest) = measures.digest else {
+        return write_pieces(
+            out,
+            &[
+                b"sheet ",
+                Buffer::new().format(number).as_bytes(),
+                b" ",
+                side.as_bytes(),
+                b" ",
+                Buffer::new().format(measures.width).as_bytes(),
+                b"x",
+                Buffer::new().format(measures.height).as_bytes(),
+                b" black ",
+                Buffer::new().format(measures.black).as_bytes(),
+                b"\n",
+            ],
+        );
+    };
     write_pieces(
         out,
         &[
@@ -141,6 +208,8 @@ fn list_side<W: WriteDevice>(
             Buffer::new().format(measures.height).as_bytes(),
             b" black ",
             Buffer::new().format(measures.black).as_bytes(),
+            b" sha256 ",
+            digits_of(digest).as_slice(),
             b"\n",
         ],
     )

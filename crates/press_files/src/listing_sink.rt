@@ -1,5 +1,6 @@
 //! The sink that lists sheets as they come.
 ghost use Rattle.std.specs.Prelude.{◌≡◌, ℕ, List, Option, ◌++◌, ◌∷◌, [], true, false, length, option_map, IfErr, OnOk, OnErr};
+ghost use Rattle.std.specs.Option.{ForSome};
 ghost use Rattle.press_sink.specs.Sending.{sheets_in};
 ghost use Rattle.press_files.specs.Listed.{delivery_of, last_of};
 ghost use Rattle.press_files.specs.Listing.{HasListed, lines_from, sheet_lines};
@@ -11,17 +12,21 @@ use press_devices::{WriteDevice, write_flushed};
 use press_sink::{Sheet, SheetSink, SinkError};
 use std::marker::{Brand, PhantomData};
 
-/// A writer before its listing. It stands in proofs alone; that of a call says what the writer held.
+/// A writer before its listing, and whether sums are listed. It stands in proofs alone; that of a call says what the writer held.
 pub trait Unlisted {
-    ghost use Rattle.std.specs.Prelude.{List, Option, ℕ};
+    ghost use Rattle.std.specs.Prelude.{Bool, List, Option, ℕ};
 
     ghost begun: { Option (List ℕ) };
+
+    ghost sums: { Bool };
 }
 
 impl Unlisted for Brand {
-    ghost use Rattle.std.specs.Prelude.{None};
+    ghost use Rattle.std.specs.Prelude.{None, false};
 
     ghost begun = { None };
+
+    ghost sums = { false };
 }
 
 /// A sheet sink that writes the lines of each sheet when it takes it. Of the sheets it keeps what the listing told of the last one, which
@@ -29,6 +34,8 @@ impl Unlisted for Brand {
 #[derive(Drop)]
 pub struct ListingSink<W: WriteDevice + Drop, D: Unlisted> {
     out: W,
+    /// Whether the digest of each side is listed.
+    sums: bool,
     /// How many sheets it took.
     count: usize,
     last: Option<ListedSheet>,
@@ -37,7 +44,9 @@ pub struct ListingSink<W: WriteDevice + Drop, D: Unlisted> {
     taken: Taken,
     of: PhantomData<D>,
     ghost lists: { ∥ HasListed written D.begun (W.contents out)
-        (lines_from 1 (sheets_in taken)) ∥₁ },
+        (lines_from D.sums 1 (sheets_in taken)) ∥₁ },
+    ghost sums_listed: { sums ≡ D.sums },
+    ghost sums_kept: { ForSome last (λ one. one.sums ≡ D.sums) },
     ghost counted: { count ≡ length taken },
     ghost kept: { ∥ option_map delivery_of last ≡ last_of taken ∥₁ },
     ghost cause: { written ≡ false → W.failed out ≡ true },
@@ -52,12 +61,14 @@ pub struct EndedListing<W> {
 
 impl<W: WriteDevice + Drop, D: Unlisted> ListingSink<W, D> {
     /// A sink that took nothing yet.
-    pub fn new(out: W) -> Self
-        requires { W.contents out ≡ D.begun }
+    pub fn new(out: W, sums: bool) -> Self
+        requires begun { W.contents out ≡ D.begun }
+        requires sums { sums ≡ D.sums }
         ensures { result.taken ≡ [] }
     {
         ListingSink {
             out,
+            sums,
             count: 0,
             last: None,
             written: true,
@@ -69,7 +80,7 @@ impl<W: WriteDevice + Drop, D: Unlisted> ListingSink<W, D> {
     /// Writes the replies behind the lines, and flushes.
     pub fn finish(self, replies: &[u8]) -> EndedListing<W>
         ensures lists { ∥ HasListed result.written D.begun (W.contents result.out)
-            (lines_from 1 (sheets_in self.taken) ++ replies.now) ∥₁ }
+            (lines_from D.sums 1 (sheets_in self.taken) ++ replies.now) ∥₁ }
         ensures flushed { result.written ≡ true → W.waiting result.out ≡ false }
         ensures cause { result.written ≡ false → W.failed result.out ≡ true }
     {
@@ -87,7 +98,8 @@ impl<W: WriteDevice + Drop, D: Unlisted> ListingSink<W, D> {
 
     /// Lists a sheet, and keeps what is told of it.
     fn list(&mut self, listed: ListedSheet, sheet: &Sheet) -> Result<(), SinkError>
-        requires { listed.sheet.value ≡ sheet.now }
+        requires sheet { listed.sheet.value ≡ sheet.now }
+        requires sums { listed.sums ≡ D.sums }
         ensures ok { OnOk result (self.new.taken ≡ self.old.taken ++ delivery_of listed ∷ []) }
         ensures err { OnErr result (self.new.taken ≡ self.old.taken) }
         ensures memory { IfErr result (λ error. error ≡ SinkError.NoMemory) }
@@ -108,7 +120,7 @@ fn list_more<W: WriteDevice>(out: &mut W, written: bool, number: usize, sheet: &
     ensures lists { (old : Option (List ℕ)) (bytes : List ℕ)
         → HasListed written old (W.contents out.old) bytes
         → HasListed result old (W.contents out.new)
-        (bytes ++ sheet_lines number sheet.now.sheet.value) }
+        (bytes ++ sheet_lines sheet.now.sums number sheet.now.sheet.value) }
     ensures cause { result ≡ false → (written ≡ false → W.failed out.old ≡ true)
         → W.failed out.new ≡ true }
 {
@@ -128,7 +140,7 @@ impl<W: WriteDevice + Drop, D: Unlisted> SheetSink for ListingSink<W, D> {
     }
 
     fn deliver(&mut self, tag: u64, sheet: &Sheet) -> Result<(), SinkError> {
-        self.list(ListedSheet::of(tag, sheet), sheet)
+        self.list(ListedSheet::of(tag, sheet, self.sums), sheet)
     }
 
     fn deliver_again(&mut self, tag: u64, sheet: &Sheet) -> Result<(), SinkError> {

@@ -5,7 +5,7 @@ use Rattle.press_files.proofs.listing.list_stream.Goals as goal
 
 pub returns-clause-lists : goal.returns-clause-lists
 returns-clause-lists g c =
-    lists-stream c.args.front.now c.print_behind-printed.result c.finish-ended.result.written _ _ _ _
+    lists-stream g.D.Unlisted.sums c.args.front.now c.print_behind-printed.result c.finish-ended.result.written _ _ _ _
     c.new-sheets.result.taken c.print_behind-printed.new.sheets.taken
     (held c.new-replies.result) (held c.print_behind-printed.new.replies) c.bytes.result.now
     c.new-sheets.ensures c.new-replies.ensures (sym c.bytes.ensures)

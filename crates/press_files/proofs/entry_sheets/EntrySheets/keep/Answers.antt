@@ -17,7 +17,7 @@ pub invariant_of-self-2 : goal.invariant_of-self-2
 invariant_of-self-2 c =
     let old = c.args.self.now in
     let kept = c.reserve.new.self in
-    let one : EntrySheet = record { number = c.delivered-number.result + 1; sheet = c.args.sheet } in
+    let one : EntrySheet = record { number = c.delivered-number.result + 1; sheet = c.args.sheet; plain = c.push-arg-2-1.given.0 } in
     let room : kept.len < kept.cap = omega (arith, c.in_ok-reserve.ensures.ok) in
     let all : c.push.new.self.items ≡ kept.items ++ one ∷ [] =
     pushed c.push.result kept.items c.push.new.self.items one c.push.ensures.items (c.push.ensures.succeeds room) in

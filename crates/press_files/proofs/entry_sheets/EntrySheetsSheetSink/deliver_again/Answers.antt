@@ -11,6 +11,6 @@ returns c =
     let one : Delivery = record { tag = c.args.tag; sheet = c.args.sheet.now } in
     let last = c.in-Some.ensures.value ∙ ap (λ (all : List EntrySheet). slice_get all (length all - 1)) c.deref.ensures.value in
     let same : delivery_of c.again-again.result ≡ one =
-    c.again-again.ensures
+    c.again-again.ensures.delivered
     ∙ told-last (λ (one : EntrySheet). delivery_of one.sheet) (kept c.args.self.now) c.in-Some.last.now one _ last c.requires.last.1 in
     search (rules, same)
