@@ -1,4 +1,3 @@
 -- Lemmas on pages of streams.
 mod DisassemblyLemmas
 mod PagingLemmas
-mod TracedLemmas

@@ -13,12 +13,16 @@ use Rattle.press_engine.specs.Machine.{StepResult, power_on}
 use Rattle.press_engine.specs.Trace.{last_machine}
 use Rattle.press_stream.specs.State.{IsOver}
 use Rattle.press_debug.specs.Places.{StandsBehind, PlacesGoOn}
-use Rattle.press_debug.specs.Steps.{DebuggerState, Advances, at_start}
+use Rattle.press_debug.specs.Steps.{DebuggerState, Advances, IsReadAtStart, at_start}
+use Rattle.press_debug.specs.declared.fault.OpenError.{OpenError}
+use Rattle.press_debug.specs.declared.fault.OpenError.TheVariants as opening
 use Rattle.press_debug.proofs.Taking.{at_machine}
 use Rattle.press_files.specs.Inputs.{ReadWhole}
 use Rattle.press_forms.specs.declared.paging.PagingError.{PagingError}
 use Rattle.press_forms.specs.declared.paging.PagingError.TheVariants.{Input, WriteFault, NoMemory}
-use Rattle.press_forms.specs.Paging.{AreTaken, HasPage, MakesPage, PagedBehind, PagedInto, StandsAt, StopsPaging, TellsEnd, end_text, page_behind}
+use Rattle.press_forms.specs.Paging.{AreTaken, HasPage, IsUnpaged, MakesPage, PagedBehind, PagedInto, StandsAt, StopsPaging, TellsEnd, end_text, page_behind, unopened}
+use Rattle.press_forms.specs.Causes.{PageCause}
+use Rattle.press_files.specs.Causes.{failures}
 
 -- It stands behind so many items.
 pub record StandsBehindSo (bytes : List ℕ) (count : ℕ) (now : DebuggerState) : Type 0 where
@@ -65,6 +69,46 @@ stands_at_end law bytes count steps now few so over = record {
       ∙ ap (λ (items : List StepResult). Some (last_machine power_on items)) (sym (take_all steps so.items (omega (arith, few, so.many))));
   count = record { few = few; within = omega (arith, so.many); all = λ _. sym so.many };
 }
+
+-- ---- the same of the stream of a reader
+
+-- It was read whole, and stands behind so many items.
+pub record ReadBehind (had left : Option (List ℕ)) (count : ℕ) (now : DebuggerState) : Type 0 where
+  pub bytes : List ℕ
+  pub read : ReadWhole had left bytes
+  pub behind : StandsBehindSo bytes count now
+
+pub begins_read : PlacesGoOn → (had left : Option (List ℕ)) (now : DebuggerState) → IsReadAtStart had left now → ReadBehind had left 0 now
+begins_read law had left now start = record {
+  bytes = start.bytes;
+  read = record { lost = start.read; at_end = start.at_end };
+  behind = begins_so law start.bytes now start.start;
+}
+
+pub goes_read : PlacesGoOn → (had left : Option (List ℕ)) (count : ℕ) (item : StepResult) (old new : DebuggerState) → ReadBehind had left count old
+    → Advances old (item ∷ []) new → ReadBehind had left (count + 1) new
+goes_read law had left count item old new so advances = record {
+  bytes = so.bytes;
+  read = so.read;
+  behind = goes_so law so.bytes count item old new so.behind advances;
+}
+
+-- where no page is there to be made, nothing is made
+pub unpaged_stops : (Fails : Type 0) (steps : ℕ) (name : List ℕ) (had left : Option (List ℕ)) (before : Option (List MadeOutput)) (why : PagingError)
+    → IsUnpaged Fails why → StopsPaging steps name had left (change before before) why
+unpaged_stops Fails steps name had left before (Input why) is = refl
+unpaged_stops Fails steps name had left before WriteFault is = absurd is
+unpaged_stops Fails steps name had left before NoMemory is = refl
+
+pub unpaged_cause : (Fails Failed : Type 0) (why : PagingError) → IsUnpaged Fails why → PageCause (failures Fails ⊥ ⊥ Failed) why
+unpaged_cause Fails Failed (Input why) is = is
+unpaged_cause Fails Failed WriteFault is = absurd is
+unpaged_cause Fails Failed NoMemory is = tt
+
+-- an error of a stream that is not opened
+pub unopened_is : (Fails : Type 0) (fault : OpenError) → (fault ≡ opening.ReadFault → Fails) → IsUnpaged Fails (unopened fault)
+unopened_is Fails opening.ReadFault cause = cause refl
+unopened_is Fails opening.NoMemory cause = tt
 
 -- what is told of the end, where it is
 pub tells_end : (steps : ℕ) (items : List StepResult) (taken : ℕ) (said says : Option (List ℕ)) → AreTaken steps items taken → taken < steps

@@ -3,8 +3,8 @@ use Rattle.std.specs.Prelude.{⊤}
 use Rattle.press_files.specs.Causes.{Failures, InputCause}
 use Rattle.press_forms.specs.declared.assembly.TextError.{TextError}
 use Rattle.press_forms.specs.declared.assembly.TextError.TheVariants as texts
-use Rattle.press_forms.specs.declared.traced.TracedError.{TracedError}
-use Rattle.press_forms.specs.declared.traced.TracedError.TheVariants as traces
+use Rattle.press_trace.specs.declared.fault.TraceError.{TraceError}
+use Rattle.press_trace.specs.declared.fault.TraceError.TheVariants as traces
 use Rattle.press_forms.specs.declared.paging.PagingError.{PagingError}
 use Rattle.press_forms.specs.declared.paging.PagingError.TheVariants as pages
 
@@ -16,9 +16,9 @@ TextCause fails texts.NoOutput = fails.output
 TextCause fails other = ⊤
 
 -- of a trace
-abbrev pub TraceCause : Failures → TracedError → Type 0
-TraceCause fails (traces.Input why) = InputCause fails.input why
-TraceCause fails traces.Output = fails.output
+abbrev pub TraceCause : Failures → TraceError → Type 0
+TraceCause fails traces.ReadFault = fails.input
+TraceCause fails (traces.Output error) = fails.output
 TraceCause fails traces.NoMemory = ⊤
 
 -- of the page of a step

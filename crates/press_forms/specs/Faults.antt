@@ -8,8 +8,8 @@ use Rattle.press_forms.specs.declared.assembly.TextError.{TextError}
 use Rattle.press_forms.specs.declared.assembly.TextError.TheVariants as texts
 use Rattle.press_forms.specs.declared.paging.PagingError.{PagingError}
 use Rattle.press_forms.specs.declared.paging.PagingError.TheVariants as pages
-use Rattle.press_forms.specs.declared.traced.TracedError.{TracedError}
-use Rattle.press_forms.specs.declared.traced.TracedError.TheVariants as traces
+use Rattle.press_trace.specs.Faults as trace
+use Rattle.press_trace.specs.declared.fault.TraceError.{TraceError}
 use Rattle.press_files.specs.Faults.{input_text}
 
 -- of a text or a stream
@@ -21,10 +21,8 @@ told_of_text texts.NoOutput = Some output_text
 told_of_text texts.NoMemory = Some (fault_text None)
 
 -- of a trace
-abbrev pub told_of_trace : TracedError → Option (List ℕ)
-told_of_trace (traces.Input error) = Some (input_text error)
-told_of_trace traces.Output = Some output_text
-told_of_trace traces.NoMemory = Some (fault_text None)
+abbrev pub told_of_trace : TraceError → Option (List ℕ)
+told_of_trace error = Some (trace.told_text error)
 
 -- of the page of a step
 abbrev pub told_of_page : PagingError → Option (List ℕ)

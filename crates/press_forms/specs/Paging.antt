@@ -1,5 +1,5 @@
 -- The page that is open at a step of a stream, made an output.
-use Rattle.std.specs.Prelude.{◌≡◌, ◌≢◌, ◌≤◌, ◌<◌, ℕ, List, [], ◌∷◌, ◌++◌, Option, Some, Result, Ok, Err, codes, length, take}
+use Rattle.std.specs.Prelude.{◌≡◌, ◌≢◌, ◌≤◌, ◌<◌, ⊤, ℕ, List, [], ◌∷◌, ◌++◌, Option, Some, Result, Ok, Err, codes, length, take}
 use Rattle.std.specs.Fmt.{decimal}
 use Rattle.std.specs.Io.KnownBytes.{Appends}
 use Rattle.press_bits.specs.Page.{Page}
@@ -10,7 +10,10 @@ use Rattle.press_engine.specs.Machine.{StepResult, power_on}
 use Rattle.press_engine.specs.Trace.{last_machine}
 use Rattle.press_stream.specs.Traced.{IsTraceOf}
 use Rattle.press_debug.specs.Steps.{DebuggerState}
-use Rattle.press_files.specs.Causes.{Failures}
+use Rattle.press_debug.specs.declared.fault.OpenError.{OpenError}
+use Rattle.press_debug.specs.declared.fault.OpenError.TheVariants as opening
+use Rattle.press_files.specs.Causes.{Failures, InputCause}
+use Rattle.press_files.specs.declared.inputs.InputError.TheVariants as inputs
 use Rattle.press_forms.specs.Causes.{PageCause}
 use Rattle.press_files.specs.Change.{Change}
 use Rattle.press_files.specs.Inputs.{ReadWhole}
@@ -60,6 +63,21 @@ pub record StandsAt (bytes : List ℕ) (steps : ℕ) (taken : ℕ) (now : Debugg
   pub trace : IsTraceOf bytes items
   pub state : now.job.machine ≡ Some (last_machine power_on (take steps items))
   pub count : AreTaken steps items taken
+
+-- The same of the stream that a reader had, which was read whole.
+abbrev pub StandsIn : (had left : Option (List ℕ)) (steps : ℕ) (taken : ℕ) → DebuggerState → Type 0
+StandsIn had left steps taken now = (bytes : List ℕ) × ReadWhole had left bytes × StandsAt bytes steps taken now
+
+-- why a stream was not opened, as it is told
+abbrev pub unopened : OpenError → PagingError
+unopened opening.ReadFault = Input inputs.ReadFault
+unopened opening.NoMemory = NoMemory
+
+-- Why no page is there to be made: the stream is not read on, or memory ran out.
+abbrev pub IsUnpaged : (Fails : Type 0) → PagingError → Type 0
+IsUnpaged Fails (Input why) = InputCause Fails why
+IsUnpaged Fails WriteFault = ⊥
+IsUnpaged Fails NoMemory = ⊤
 
 -- An output of this name was made of a page, or not, and this is why.
 abbrev pub MakesPage : (page : Page) (name : List ℕ) → Result (Unit {0}) PagingError → (before after : Option (List MadeOutput)) → Type 0

@@ -6,14 +6,14 @@ ghost use Rattle.press_files.specs.Change.{change};
 ghost use Rattle.press_forms.specs.Causes.{PageCause};
 ghost use Rattle.press_table.specs.Closing.{page_now};
 ghost use Rattle.press_table.specs.Place.{blank_page};
-ghost use Rattle.press_forms.specs.Paging.{MakesPage, PagedBehind, Paging, StandsAt, StopsPaging};
+ghost use Rattle.press_forms.specs.Paging.{IsUnpaged, MakesPage, PagedBehind, Paging, StandsIn, StopsPaging};
 ghost use Rattle.press_forms.specs.declared.paging.PagingError.{PagingError};
 
 use press_bits::{Bitmap, BlankError};
 use press_debug::laws::places;
-use press_debug::{Stepper, Taken};
+use press_debug::{OpenError, Stepper, Taken};
 use press_devices::ReadDevice;
-use press_files::{InputError, read_all};
+use press_files::InputError;
 use press_page::PageSetup;
 use press_pbm::{WRITE_FAULT, WritePbmError};
 use press_sink::{NamedOutputs, write_page};
@@ -49,14 +49,17 @@ impl fmt::Display for PagingError {
 
 impl Error for PagingError {}
 
-impl From<InputError> for PagingError {
+impl From<OpenError> for PagingError {
     ghost use Rattle.std.specs.Prelude.{◌≡◌};
-    ghost use Rattle.press_forms.specs.declared.paging.PagingError.TheVariants.{Input};
+    ghost use Rattle.press_forms.specs.Paging.{unopened};
 
-    ghost from_gives = { λ fault error. error ≡ Input fault };
+    ghost from_gives = { λ fault error. error ≡ unopened fault };
 
-    fn from(fault: InputError) -> PagingError {
-        PagingError::Input(fault)
+    fn from(fault: OpenError) -> PagingError {
+        match fault {
+            OpenError::ReadFault => PagingError::Input(InputError::ReadFault),
+            OpenError::NoMemory => PagingError::NoMemory,
+        }
     }
 }
 
@@ -149,8 +152,7 @@ fn make_page<R: ReadDevice, O: NamedOutputs>(
         (failures (ReadFails (R.failed reader.new) (R.reads reader.new))
         ⊥ ⊥ (O.failed outputs.new ≡ true))) }
 {
-    let bytes = read_all(alloc, reader)?;
-    let stands = behind_steps(alloc, &bytes, steps)?;
+    let stands = behind_steps(alloc, reader, steps)?;
     write_open_page(alloc, &stands.stepper, outputs, name)?;
     Ok(stands.taken)
 }
@@ -162,17 +164,23 @@ struct StandingStream {
     taken: u64,
 }
 
-/// The stream of these bytes, of which so many steps were taken, or all where it has fewer.
-fn behind_steps(alloc: Global, bytes: &[u8], steps: u64) -> Result<StandingStream, AllocError>
-    ensures { IfOk result (λ stands. StandsAt bytes.now steps stands.taken stands.stepper) }
+/// The stream that a reader has, of which so many steps were taken, or all where it has fewer.
+fn behind_steps<R: ReadDevice>(
+    alloc: Global,
+    reader: &mut R,
+    steps: u64,
+) -> Result<StandingStream, PagingError>
+    ensures stands { IfOk result (λ stands. StandsIn
+        (R.remaining reader.old) (R.remaining reader.new) steps stands.taken stands.stepper) }
+    ensures err { IfErr result (IsUnpaged (ReadFails (R.failed reader.new) (R.reads reader.new))) }
 {
     places();
-    let mut stepper = Stepper::open(alloc, bytes)?;
+    let mut stepper = Stepper::read(alloc, reader)?;
     for taken in 0..steps {
         match stepper.take() {
             Taken::Steps => {}
             Taken::Nothing => return Ok(StandingStream { stepper, taken }),
-            Taken::Fault => return Err(AllocError),
+            Taken::Fault => return Err(PagingError::NoMemory),
         }
     }
     Ok(StandingStream {
