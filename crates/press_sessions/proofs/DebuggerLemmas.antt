@@ -1,5 +1,5 @@
 -- The talk of a debugger, and where it stands in the trace of its stream.
-use Rattle.std.proofs.Common.{◌≡◌, ◌∙◌, ℕ, true, List, [], ◌∷◌, Option, sym, ap, subst, inr}
+use Rattle.std.proofs.Common.{◌≡◌, ◌∙◌, ℕ, List, [], ◌∷◌, Option, sym, ap, subst, inr}
 use Rattle.press_files.specs.Causes.{Failures, InputCause}
 use Rattle.press_files.specs.Change.{change}
 use Rattle.press_debug.specs.declared.breakpoints.Break.{Break}

@@ -1,5 +1,5 @@
 -- Sessions with a debugger: what each line is answered, and what is written.
-use Rattle.std.specs.Prelude.{◌≡◌, ◌⊎◌, ℕ, Bool, true, false, List, [], ◌∷◌, ◌++◌, Option, Some, None, Result, Ok, Err, IfSome, codes, ⊤}
+use Rattle.std.specs.Prelude.{◌≡◌, ◌⊎◌, ℕ, Bool, false, List, [], ◌∷◌, ◌++◌, Option, Some, None, Result, Ok, Err, IfSome, codes, ⊤}
 use Rattle.std.specs.Fmt.{decimal, signed_decimal}
 use Rattle.press_cmd.specs.declared.variant.Kind.{Kind}
 use Rattle.press_asm.specs.Kinds.{kind_line}
@@ -11,6 +11,8 @@ use Rattle.press_debug.specs.declared.breakpoints.Break.TheVariants as break
 use Rattle.press_debug.specs.declared.debugger.Stop.{Stop}
 use Rattle.press_debug.specs.declared.debugger.Stop.TheVariants.{AtBreak, Stepped, Ended, LimitReached, Failed}
 use Rattle.press_debug.specs.declared.fault.BreakError.{BreakError}
+use Rattle.press_debug.specs.declared.fault.OpenError.{OpenError}
+use Rattle.press_debug.specs.declared.fault.OpenError.TheVariants as opening
 use Rattle.press_debug.specs.Breaks.{Sets, Clears, no_breaks, refusal_number}
 use Rattle.press_debug.specs.Places.{StandsBehind}
 use Rattle.press_debug.specs.Steps.{DebuggerState, at_start}
@@ -121,6 +123,11 @@ debugging bytes =
 -- The stream that an input had was debugged, by all lines that a reader had.
 abbrev pub Debugs : (stream rest had left old new : Option (List ℕ)) → Type 0
 Debugs stream rest had left old new = (bytes : List ℕ) × ReadWhole stream rest bytes × AnswersAll (debugging bytes) (opened bytes) had left old new
+
+-- why a stream was not opened, as it is told
+abbrev pub unopened : OpenError → DebugError
+unopened opening.ReadFault = Input input_fault.ReadFault
+unopened opening.NoMemory = NoMemory
 
 -- Why no debugger was opened. 304: the stream may be one that cannot be opened; or it is not read on. Else memory ran out.
 abbrev pub IsUnopened : (missing Fails : Type 0) → DebugError → Type 0

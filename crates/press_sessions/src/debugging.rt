@@ -25,10 +25,10 @@ use crate::debugger_lines::{DebuggerLine, asked_of};
 use crate::talking::{Talk, answer_lines};
 use press_asm::write_kind;
 use press_cmd::{Kind, LINE_FEED};
-use press_debug::{Break, BreakError, Debugger, Stop, Watch};
+use press_debug::{Break, BreakError, Debugger, OpenError, Stop, Watch};
 use press_devices::{ReadDevice, WriteDevice};
 use press_engine::View;
-use press_files::{InputError, read_all};
+use press_files::InputError;
 use press_telling::{NO_OUTPUT, Teller, report};
 use press_units::ToldFault;
 use press_words::{WHAT, line_of};
@@ -70,6 +70,20 @@ impl From<InputError> for DebugError {
 
     fn from(fault: InputError) -> DebugError {
         DebugError::Input(fault)
+    }
+}
+
+impl From<OpenError> for DebugError {
+    ghost use Rattle.std.specs.Prelude.{◌≡◌};
+    ghost use Rattle.press_sessions.specs.Debugging.{unopened};
+
+    ghost from_gives = { λ fault error. error ≡ unopened fault };
+
+    fn from(fault: OpenError) -> DebugError {
+        match fault {
+            OpenError::ReadFault => DebugError::Input(InputError::ReadFault),
+            OpenError::NoMemory => DebugError::NoMemory,
+        }
     }
 }
 
@@ -160,8 +174,7 @@ fn opened<I: ReadDevice, F: Fn(&View<'_>) -> bool + Drop>(
     ensures err { IfErr result (IsUnopened ⊥
         (ReadFails (I.failed input.new) (I.reads input.new))) }
 {
-    let bytes = read_all(alloc, input)?;
-    Ok(Debugger::open(alloc, &bytes, watch)?)
+    Ok(Debugger::read(alloc, input, watch)?)
 }
 
 /// A debugger that answers lines.
