@@ -20,7 +20,7 @@ use Rattle.press_words.specs.View.{AsksHelp, IsForMemory, made_seen, request_see
 use Rattle.press_words.specs.declared.words.Refusal.{Refusal}
 use Rattle.press_words.specs.declared.words.Refusal.TheVariants as refusals
 use Rattle.press_words.specs.Defaults.{with_prefix}
-use Rattle.press_words.specs.Words.{Source, Standard, FileNamed, Arguments, Made, Listed, FilesBy, Answered, AsText, DebuggedOf, TracedOf, PageTo, StreamTo, JobTo}
+use Rattle.press_words.specs.Words.{Source, Standard, FileNamed, Arguments, Made, Listed, SummedOf, FilesBy, Answered, AsText, DebuggedOf, TracedOf, PageTo, StreamTo, JobTo}
 use Rattle.press_sink.specs.Outputs.{MadeOutput}
 use Rattle.press_files.specs.Files.{DoesNothing}
 use Rattle.press_sessions.specs.Debugging.{IsUnopened}
@@ -126,6 +126,7 @@ Debugging-closed few missing file status stream edge more closed (rest, ended) =
 Makes-closed : (made : Made) (inputs : Text → NamedInput) (file : Type 0) (status : ℕ) (edge : Edge) → (edge.fails.file → file)
     → Makes made inputs status edge → Makes made inputs status (with_file file edge)
 Makes-closed (Listed prefix) inputs file status edge closed makes = makes
+Makes-closed (SummedOf prefix) inputs file status edge closed makes = makes
 Makes-closed (FilesBy prefix template) inputs file status edge closed makes = makes
 Makes-closed (Answered engines) inputs file status edge closed makes = makes
 Makes-closed AsText inputs file status edge closed makes = makes

@@ -22,14 +22,14 @@ use Rattle.press_sessions.specs.Faults.{told_of_debugger, told_of_session}
 use Rattle.press_files.specs.Files.{PrintsFiles, PrintsNoFiles, DoesNothing}
 use Rattle.press_jobs.specs.Causes.{JobCause}
 use Rattle.press_jobs.specs.Jobs.{MakesTheTicket, StopsMakingJob}
-use Rattle.press_files.specs.Listing.{PrintsListing}
+use Rattle.press_files.specs.Listing.{PrintsListing, PrintsSums}
 use Rattle.press_files.specs.NamedInputs.{NamedInput}
 use Rattle.press_forms.specs.Paging.{Paging}
 use Rattle.press_sessions.specs.Sessions.{Plays, Stops}
 use Rattle.press_telling.specs.Telling.{output_text, Ended, Tells, as_line}
 use Rattle.press_forms.specs.Traced.{Tracing}
 use Rattle.press_words.specs.View.{AsksHelp}
-use Rattle.press_words.specs.Words.{Source, Standard, FileNamed, Made, Listed, FilesBy, Answered, AsText, DebuggedOf, TracedOf, PageTo, StreamTo, JobTo, Arguments, arguments}
+use Rattle.press_words.specs.Words.{Source, Standard, FileNamed, Made, Listed, SummedOf, FilesBy, Answered, AsText, DebuggedOf, TracedOf, PageTo, StreamTo, JobTo, Arguments, arguments}
 
 -- A text was assembled into an output of this name, or not.
 abbrev pub Assembling : (fails : Failures) (name : Text) (status : ℕ) (told read : Change (Option (List ℕ))) (made : Change (Option (List MadeOutput))) → Type 0
@@ -90,6 +90,7 @@ OpensNothing missing status edge = (missing × DoesNothing (Some read_fault) sta
 -- output that is made is one of them.
 abbrev pub Makes : Made → (inputs : Text → NamedInput) → (status : ℕ) → Edge → Type 0
 Makes (Listed prefix) inputs status edge = PrintsListing (writing edge.fails) status prefix edge.told edge.read edge.written × MakesNothing edge
+Makes (SummedOf prefix) inputs status edge = PrintsSums (writing edge.fails) status prefix edge.told edge.read edge.written × MakesNothing edge
 Makes (FilesBy prefix template) inputs status edge =
     PrintsFiles template prefix status (without_files edge) ⊎ PrintsNoFiles template status (without_files edge)
 Makes (Answered engines) inputs status edge = Playing engines status inputs edge × MakesNothing edge

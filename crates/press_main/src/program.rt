@@ -16,7 +16,7 @@ use crate::behind::Behind;
 use crate::making::{asm_file, job_file};
 use crate::sparing::spare_inputs;
 use press_devices::{ReadDevice, WriteDevice, write_flushed};
-use press_files::{NamedInputs, print_files, print_list};
+use press_files::{NamedInputs, print_files, print_list, print_sums};
 use press_forms::{disasm_bytes, page_file, tell_trace};
 use press_sessions::{debug_lines, press_lines};
 use press_sink::NamedOutputs;
@@ -261,6 +261,15 @@ fn make<
     match output {
         Output::Listing(prefix) => {
             let listed = print_list(alloc, prefix, &mut reader, out, err);
+            Performed {
+                status: listed.status,
+                input: reader,
+                out: listed.out,
+                outputs,
+            }
+        }
+        Output::Sums(prefix) => {
+            let listed = print_sums(alloc, prefix, &mut reader, out, err);
             Performed {
                 status: listed.status,
                 input: reader,

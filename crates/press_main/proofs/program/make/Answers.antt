@@ -4,6 +4,9 @@ use Rattle.press_main.proofs.program.make.Goals as goal
 pub returns-in-Listing-clause-makes : goal.returns-in-Listing-clause-makes
 returns-in-Listing-clause-makes g c = rw (c.in-Listing.is, ← c.deref.ensures.value) (c.print_list-listed.ensures.printed, refl)
 
+pub returns-in-Sums-clause-makes : goal.returns-in-Sums-clause-makes
+returns-in-Sums-clause-makes g c = rw (c.in-Sums.is, ← c.deref-in-Sums.ensures.value) (c.print_sums-listed.ensures.printed, refl)
+
 pub returns-in-Files-clause-makes : goal.returns-in-Files-clause-makes
 returns-in-Files-clause-makes g c = rw (c.in-Files.is, ← c.deref-in-Files.ensures.value) c.print_files-printed.ensures.prints
 
