@@ -1,0 +1,6 @@
+-- What the library answers, by what the program writes.
+pub mod Answers
+pub mod Faults
+pub mod Session
+pub mod Settings
+pub mod Written

@@ -1,0 +1,17 @@
+//! The calls that the program makes, over bytes in memory: each puts the front of what it has into a room.
+#![tactic(auto)]
+
+mod answer;
+mod calls;
+mod ending;
+mod job;
+mod memory_files;
+mod playing;
+mod settings;
+mod sides;
+mod streams;
+mod texts;
+mod told;
+
+pub use answer::RombixelaAnswer;
+pub use calls::{asm, disasm, list, print, session, trace, version, write};

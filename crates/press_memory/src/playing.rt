@@ -1,0 +1,33 @@
+//! A session with a press, over lines and files in memory.
+ghost use Rattle.press_memory.specs.Session.{SessionOf};
+
+use crate::answer::{NO_MEMORY, Written};
+use crate::memory_files::MemoryFiles;
+use crate::told::LastTold;
+use press_devices::Watched;
+use press_sessions::press_lines;
+use std::alloc::Global;
+
+/// What is written in a session with a press of so many engines, by the lines of events, with the files of a block.
+pub(crate) fn session(alloc: Global, engines: u64, files: &[u8], lines: &[u8]) -> Written
+    ensures { SessionOf engines lines.now result.fault result.bytes.items }
+{
+    match MemoryFiles::in_block(alloc, files) {
+        Ok(inputs) => played(alloc, engines, &inputs, lines),
+        Err(_) => Written::nothing(alloc, NO_MEMORY),
+    }
+}
+
+/// The same with these files.
+fn played(alloc: Global, engines: u64, inputs: &MemoryFiles<'_>, lines: &[u8]) -> Written
+    ensures { SessionOf engines lines.now result.fault result.bytes.items }
+{
+    let mut reader = Watched::new(lines);
+    let mut out = Watched::new(Vec::new(alloc));
+    let mut told = LastTold::nothing();
+    let status = press_lines(alloc, inputs, engines, &mut reader, &mut out, &mut told);
+    Written {
+        fault: told.fault(status),
+        bytes: out.into_inner(),
+    }
+}
