@@ -175,7 +175,7 @@ def make_fast(code):
                 make_program(module, FAST, room, to)
             module.unlink(missing_ok=True)
     if to.exists() and sum_of_code() == code:
-        note(to, time.time())
+        note(to, time.time(), line())
 
 
 def begin_fast(code):
@@ -202,9 +202,9 @@ def best_of(code):
     return next((path for level in (FAST, FIRST) if os.access(path := name_of(code, level), os.X_OK)), None)
 
 
-def note(made, since):
+def note(made, since, said):
     """Notes which program answers, and what is said of it."""
-    standing.write(RECORD, (made.relative_to(RECORD.parent), line()), since)
+    standing.write(RECORD, (made.relative_to(RECORD.parent), said), since)
 
 
 def line():
@@ -222,5 +222,5 @@ def find():
     elif not name_of(code, FAST).exists() and name_of(code, "module").exists():
         begin_fast(code)   # the call that began it may have been ended
     made = best_of(code)
-    note(made, since)
+    note(made, since, line())
     return made

@@ -50,7 +50,7 @@ class Room:
     def furnish(self):
         """Makes the room: the sources of the crate and of those below it, what was made of these, and what was kept of this one."""
         names = [*sorted(self.given.below(self.name)), self.name]
-        rows = [f"{name}: {' '.join(self.given.rows[name])}\n" for name in names]
+        rows = [self.given.row(name) for name in names]
         (self.folder / "crates").mkdir(parents=True)
         (self.folder / sources.LIST).write_text("".join(rows))
         (self.folder / sources.HANDLES).write_bytes(self.given.handles)

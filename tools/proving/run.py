@@ -8,7 +8,7 @@ import sys
 import time
 from pathlib import Path
 
-from proving import rooms, shared, sources, standing, stated
+from proving import archive, rooms, shared, sources, standing, stated
 from proving.measures import Measure
 
 LOOKS_A_SECOND = 4
@@ -64,6 +64,7 @@ class Run:
         shared.note(crates.parent)
         given = plan.given
         self.of_program = standing.sum_of_sources(given.rows, given.folder) if sources.PROGRAM in given.names else None
+        self.of_library = standing.sum_of_sources(given.rows, given.folder, sources.LIBRARY) if sources.LIBRARY in given.names else None
         for older in logs.glob("run-*.log"):
             if not os.path.exists(f"/proc/{older.stem.partition('-')[2]}"):
                 older.unlink()
@@ -91,7 +92,7 @@ class Run:
 
     def stamp(self, name):
         """Gives a library that stands the stamp of the sources of now, since those below it may have other bodies."""
-        if name == sources.PROGRAM:
+        if name == sources.PROGRAM or name in self.plan.given.statics:
             return
         if self.stamps is None:
             self.stamps = stated.stamps(self.rt, *self.whole())
@@ -107,7 +108,7 @@ class Run:
         """A repository of the sources of this run, and its crates."""
         given, top = self.plan.given, self.folder / "whole"
         (top / "crates").mkdir(parents=True)
-        (top / sources.LIST).write_text("".join(f"{name}: {' '.join(given.rows[name])}\n" for name in given.names), encoding="utf-8")
+        (top / sources.LIST).write_text("".join(given.row(name) for name in given.names), encoding="utf-8")
         for name in given.names:
             rooms.linked(given.folder / name, top / "crates" / name)
         return top, given.names
@@ -146,7 +147,9 @@ class Run:
         """Notes that what stands of a crate was proved of these sources."""
         shared.mark(self.crates.parent, name, self.sum(name))
         if name == sources.PROGRAM:
-            standing.note_proved(self.of_program, by)
+            standing.note_proved(self.of_program, by, self.plan.given.since)
+        if name == sources.LIBRARY:
+            archive.note_proved(self.of_library, by)
 
     def begin_one(self, name, jobs, lock):
         if self.stands(name) or self.takes(name):   # another run has just proved it, or another checkout has it

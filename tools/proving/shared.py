@@ -35,11 +35,19 @@ def others(top):
                     yield other
 
 
+def archive_of(name):
+    """The file that is made of a crate that is an archive for C."""
+    return f"lib{name}.a"
+
+
 def made_of(crate, name):
-    """What tells of a crate which make of it stands: the kit's stamp of its library; of the program nothing, which has a record of its own."""
+    """What tells of a crate which make of it stands: the kit's stamp of its library, the sum of an archive for C; of the program nothing, which has a
+    record of its own."""
     out = crate / "out"
     if name == sources.PROGRAM:
         return "program" if (out / name).is_file() else None
+    if (out / archive_of(name)).is_file():
+        return hashlib.sha256((out / archive_of(name)).read_bytes()).hexdigest()
     return (out / rooms.BUILT / "stamp").read_text(encoding="utf-8").strip() or None
 
 
@@ -79,7 +87,7 @@ def take(top, name, found, of_program, room):
 def take_from(other, top, name, room, holds):
     """Takes a crate from this checkout; answers whether that could be done, and what was taken is what was looked for."""
     given, own = other / "crates" / name / "out", top / "crates" / name / "out"
-    parts = [name] if name == sources.PROGRAM else [rooms.BUILT, rooms.KEPT]
+    parts = [name] if name == sources.PROGRAM else [rooms.BUILT, rooms.KEPT, archive_of(name)]
     try:
         room.mkdir(parents=True)
         for part in parts:

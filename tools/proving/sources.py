@@ -4,11 +4,14 @@ import functools
 import hashlib
 import os
 import shutil
+import time
 from pathlib import Path
 
 from seen import kit as kits
 
 PROGRAM = "press"
+LIBRARY = "press_library"
+STATIC = "staticlib"    # the kind of a crate that is an archive for C; no crate stands on it
 PARTS = ("src", "specs", "proofs")
 LIST, HANDLES = "crates.txt", "HANDLES"
 KIT = "KIT-ID"      # in the kit's folder
@@ -31,10 +34,20 @@ def kit():
     return Path(kit_file()).read_text(encoding="utf-8").strip() if kit_file() else ""
 
 
+def lines_of(top):
+    """The lines of the list of crates: the words before the colon, and those behind it."""
+    lines = [line.partition("#")[0] for line in (top / LIST).read_text(encoding="utf-8").splitlines()]
+    return [(head.split(), uses.split()) for head, _, uses in (line.partition(":") for line in lines if line.strip())]
+
+
 def rows_of(top):
     """The rows of the list of crates: for each crate the libraries that it uses."""
-    lines = [line.partition("#")[0] for line in (top / LIST).read_text(encoding="utf-8").splitlines()]
-    return {name.strip(): uses.split() for name, _, uses in (line.partition(":") for line in lines if line.strip())}
+    return {head[0]: uses for head, uses in lines_of(top)}
+
+
+def statics_of(top):
+    """The crates that are archives for C."""
+    return {head[0] for head, _ in lines_of(top) if STATIC in head[1:]}
 
 
 def below(rows, name):
@@ -51,7 +64,8 @@ class Sources:
     """A copy of the sources of some crates and of those below them, so that a run proves one state of the tree."""
 
     def __init__(self, top, folder, names):
-        self.rows = rows_of(top)
+        self.since = time.time()
+        self.rows, self.statics = rows_of(top), statics_of(top)
         if unknown := [name for name in names if name not in self.rows]:
             raise Unknown(unknown[0])
         self.folder = folder
@@ -69,6 +83,10 @@ class Sources:
                 shutil.copytree(path, to / path.name)
             elif path.is_file():
                 shutil.copyfile(path, to / path.name)
+
+    def row(self, name):
+        """The crate's line in a list of crates."""
+        return f"{name}{f' {STATIC}' if name in self.statics else ''}: {' '.join(self.rows[name])}\n"
 
     def uses(self, name):
         """The crates of the repository that this one names."""
@@ -94,7 +112,8 @@ class Sources:
         return found.hexdigest()
 
     def sum(self, name, stated):
-        """A sum of all that the crate's proof reads: its own sum, and what the crates below it state. The program takes their bodies, too."""
+        """A sum of all that the crate's proof reads: its own sum, and what the crates below it state. The program and an archive for C take their
+        bodies, too."""
         below = sorted(self.below(name))
-        read = [self.own(crate) for crate in below] if name == PROGRAM else [stated(crate) for crate in below]
+        read = [self.own(crate) for crate in below] if name == PROGRAM or name in self.statics else [stated(crate) for crate in below]
         return hashlib.sha256(repr((self.own(name), list(zip(below, read)))).encode()).hexdigest()

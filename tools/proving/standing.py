@@ -22,19 +22,24 @@ SETTLED = 1.0    # seconds after which a file's time tells it from one that was 
 FIELDS = ("kit", "sources", "program", "by")   # the lines of the record of a proved program, behind the first
 
 
-def sum_of_sources(rows=None, crates=ROOT / "crates"):
-    """A sum of all that the program is made of, but the kit: these rows of the list of crates, and the files in this folder."""
+def sum_of_sources(rows=None, crates=ROOT / "crates", name=sources.PROGRAM):
+    """A sum of all that the program, or the archive of another name, is made of, but the kit: these rows of the list of crates, and the files in this
+    folder."""
     rows = sources.rows_of(ROOT) if rows is None else rows
     found = hashlib.sha256()
-    for name in sources.below(rows, sources.PROGRAM):
-        found.update(repr((name, rows[name])).encode())
-        for path in sorted(path for part in PARTS for path in (crates / name / part).glob("**/*") if path.is_file()):
+    for crate in sources.below(rows, name):
+        found.update(repr((crate, rows[crate])).encode())
+        for path in sorted(path for part in PARTS for path in (crates / crate / part).glob("**/*") if path.is_file()):
             found.update(repr((str(path.relative_to(crates)), path.read_bytes())).encode())
     return found.hexdigest()
 
 
+def sum_of_bytes(content):
+    return hashlib.sha256(content).hexdigest()
+
+
 def sum_of_file(path):
-    return hashlib.sha256(path.read_bytes()).hexdigest()
+    return sum_of_bytes(path.read_bytes())
 
 
 def write(record, lines, since):
@@ -57,9 +62,8 @@ def date(record, since):
         pass   # the next call compares again
 
 
-def note_proved(given, by):
-    """Notes that the program that stands was proved, of sources with this sum."""
-    since = time.time()
+def note_proved(given, by, since):
+    """Notes that the program that stands was proved, of sources that had this sum at that time. What was changed since is compared by the next call."""
     write(PROVED, (sources.kit(), given, sum_of_file(program.PROGRAM), by), since)
 
 

@@ -22,11 +22,11 @@ def stands(program=PROGRAM):
 
 @functools.cache
 def answering(chosen=PROGRAM):
-    """The program that is asked: one that the caller chose, or else the one that `press` runs, proved if it stands, or compiled of the sources."""
+    """The program that is asked: one that the caller chose, or else the one that `press` runs, proved here or elsewhere, or compiled of the sources."""
     if chosen != PROGRAM:
         return chosen
-    from proving import compiled, standing   # they stand on this module
-    return PROGRAM if standing.proved() is not None else compiled.find()
+    from proving import compiled, elsewhere, standing   # they stand on this module
+    return PROGRAM if standing.proved() is not None else elsewhere.find() or compiled.find()
 
 
 def who(chosen=PROGRAM):
