@@ -48,22 +48,23 @@ class Rows(NamedTuple):
 def found(shown, stream):
     """The finding on a stream that was damaged, or None."""
     rows = Rows.of(stream)
-    if told := undone(stream, rows) or lost(rows) or seven_bits(rows):
+    told, place = undone(stream, rows) or (lost(rows) or seven_bits(rows), None)
+    if told:
         sentence = f"{shown} was damaged on its way: {told}"
         wrong = f", so {rows.wrong:,} of {counted(rows.count, 'row')} end elsewhere than they say" if rows.wrong else ""
-        return Finding(None, sentence + wrong, ADVICE)
+        return Finding(None, sentence + wrong, ADVICE, place=place)
     return None
 
 
 def undone(stream, rows):
-    """What was put in, where the stream without it has whole rows; or None."""
+    """What was put in, and where first, where the stream without it has whole rows; or None."""
     if rows.wrong < LEAST_WRONG:
         return None
     if (place := stream.find(REPLACED)) >= 0:
-        return f"bytes above 127 were replaced by EF BF BD, first at byte {place}"
+        return f"bytes above 127 were replaced by EF BF BD, first at byte {place}", place
     for name, first, mended in ((LINE_FEEDS, stream.find(b"\r\n"), stream.replace(b"\r\n", b"\n")), (AS_TEXT, first_high(stream), as_latin(stream))):
         if first >= 0 and mended is not None and Rows.of(mended).wrong * MENDS <= rows.wrong:
-            return f"{name}, first at byte {first}"
+            return f"{name}, first at byte {first}", first
     return None
 
 

@@ -1,10 +1,12 @@
-"""What is found: the number of the fault (or the status 2 of refused words, or none), a sentence, and what to do."""
+"""What is found: the number of the fault (or the status 2 of refused words, or none), a sentence, what to do, and how grave it is."""
 
 from typing import NamedTuple, Optional
 
 from seen.printable import printable
 
 REFUSED_WORDS = 2
+# Grades, the gravest first; the status of `tools/why` is that of the gravest finding.
+WORDS, LOST, REMARKED, IN_PLACE = 2, 1, 3, 0
 
 
 class Finding(NamedTuple):
@@ -12,17 +14,35 @@ class Finding(NamedTuple):
     sentence: str
     advice: str
     harmless: bool = False   # whether what is printed is the same without it
+    remark: bool = False     # whether it moved or changed a page, and no page is blank or lost dots by it
+    page: Optional[int] = None      # the number of the side that it is of first
+    place: Optional[int] = None     # the byte of the stream at which it begins
+    command: Optional[str] = None   # what stands there, as it is spelled
+    dots: Optional[int] = None      # how many are lost, erased or too many
 
     def text(self):
         """One line: what it tells of a stream or of words has no control character left."""
         shown = "" if self.number is None or self.number == REFUSED_WORDS else f" ({self.number})"
         return printable(f"{self.sentence}{shown}. {self.advice}")
 
-    def status(self):
-        """The status that the program ends with."""
-        if self.number is None:
-            return 0
-        return 2 if self.number == REFUSED_WORDS else 1
+    def grade(self):
+        if self.number is not None:
+            return WORDS if self.number == REFUSED_WORDS else LOST
+        if self.harmless:
+            return IN_PLACE
+        return REMARKED if self.remark else LOST
+
+    def told(self):
+        """What is told of it as JSON."""
+        number = None if self.number == REFUSED_WORDS else self.number
+        return {"advice": self.advice, "command": self.command, "dots": self.dots, "grade": self.grade(), "number": number, "page": self.page,
+                "place": self.place, "sentence": self.sentence}
+
+
+def status_of(found):
+    """The gravest of their grades."""
+    grades = {finding.grade() for finding in found}
+    return next((grade for grade in (WORDS, LOST, REMARKED) if grade in grades), IN_PLACE)
 
 
 class Found(Exception):

@@ -60,7 +60,7 @@ def debugged(lines, *said):
 
 WORDS = [
     Mistake("prnt in.pcl", 2, ("prnt", "Did you mean print?")),
-    Mistake("print", 2, ("IN is missing", "press print [--list] [--default NAME=VALUE].. IN [OUT]")),
+    Mistake("print", 2, ("IN is missing", "press print [--list] [--sums] [--default NAME=VALUE].. IN [OUT]")),
     Mistake("print in.pcl", 2, ("OUT is missing", "page-%d.pbm")),
     Mistake("print a b c", 2, ("c is one too many",)),
     Mistake("print --all in.pcl", 2, ("--all is no option of print",)),
@@ -155,6 +155,10 @@ STREAMS = [
     printed(bytes(byte & 127 for byte in SENT), "was damaged on its way: none of the 9,600 bytes of its rows is above 127"),
     printed(UEL + b"@PJL ENTER LANGUAGE=POSTSCRIPT\n%!PS\nshowpage\n" + UEL, "prints no sheet"),
     printed(b"Dear Sir\x0c", "prints 1 side, and it is blank"),
+    printed(b"\x1bE\x1b&f0X\x1b*c1a1b0P\x1bE", "prints no sheet: it sends ESC&f0X at byte 2", "recorded, and lost"),
+    printed(b"\x1b*c9a9b0P\x1b*c1P\x0c", "prints 1 side, and it is blank", "white ones replace, the last by ESC*c1P at byte 9"),
+    printed(b"\x1b&l0E\x1b&l0O\x1b*c1a1b0P\x0c", "sends ESC&l0O at byte 5", "puts the top margin back"),
+    printed(b"".join(b"\x1b*p%dY\x1b*c1a1b0P\x0c" % place for place in (10, 20, 30)), "moves from page to page", "10 dots below"),
     printed(b"\x1b%0BIN;SP1;PD100,100;\x1b%0A\x0c", "blank"),
     printed(b"\x1b*p10x10Y\x1b*c5a5B", "prints no sheet"),
 ]

@@ -100,7 +100,7 @@ def judge_write(request, _chosen):
 def replaced(name):
     """OUT is no fault where it is there, but it is replaced."""
     if os.path.isfile(name) and os.path.getsize(name):
-        yield Finding(None, f"OUT {name} is there, with {os.path.getsize(name):,} bytes, and is replaced", "Give another name to keep it")
+        yield Finding(None, f"OUT {name} is there, with {os.path.getsize(name):,} bytes, and is replaced", "Give another name to keep it", remark=True)
 
 
 def judge_debug(request, chosen):

@@ -8,6 +8,7 @@ from typing import NamedTuple
 
 UEL = b"\x1b%-12345X"
 DOT = b"\x1b*c1a1b0P"
+REPEATED = b"\x1b*t300R\x1b*r1A\x1b*b0W\x1b*b3M\x1b*b2W\x00\xf0" + b"\x1b*b0W" * 30 + b"\x1b*rC\x0c"
 PICTURE = b"\x1b*t300R\x1b*r0A\x1b*b1W\xf0\x1b*rC"
 
 
@@ -68,7 +69,27 @@ ROWS = [
     Row("unknown", b"\x1b.Y\x1b(1@" + DOT + b"\x0c", ("sends ESC.Y at byte 0", "ignored"), "no row: ignored"),
     Row("steps of text", b"\t\x08" + DOT + b"\x0c", ("sends HT at byte 0, and 1 command like it (BS)", "cursor of text"), "it moves the cursor of text"),
     Row("control", b"\x00\x0f" + DOT + b"\x0c", ("sends Null at byte 0, and 1 command like it (Shift In)", "moves no dot"), "it marks nothing"),
+    # What follows decides
+    Row("margin that is put back", b"\x1b&l0E\x1b&l0O" + DOT + b"\x0c",
+        ("sends ESC&l0O at byte 5", "puts the top margin back to half an inch, though the orientation stays the same", "150 dots below"),
+        "what follows stands 150 dots below where the margin before it put it"),
+    Row("margin that is put back", b"\x1b&l1S\x1b&l0E\x1b&l2A" + DOT + b"\x0c", ("sends ESC&l2A at byte 10", "though the page size stays the same"), ""),
+    Row("margin that is put back", b"\x1b&l0E\x1b&l26A" + DOT + b"\x0c", ("sends ESC&l26A at byte 5", "back to half an inch, so what follows"), ""),
+    Row("a macro that is not ended", b"\x1bE\x1b&f0X" + DOT + b"\x1bE",
+        ("prints no sheet: it sends ESC&f0X at byte 2", "ESC E at byte 16 ends it without ESC&f1X, so the 3 commands behind it are recorded, and lost"),
+        "without ESC&f1X, so the 3 commands behind it are recorded, and lost", True),
+    Row("a macro that is not ended", DOT + b"\x0c\x1b&f0X" + DOT, ("sends ESC&f0X at byte 10", "the stream ends before ESC&f1X, so the 3 commands"), ""),
+    Row("an overlay of nothing", b"\x1b&f5y4X\x0c", ("it is blank: it sends ESC&f4X at byte 5", "there is no macro 5 where the page closes"),
+        "there is no macro 5 where the page closes", True),
+    Row("an overlay of nothing", b"\x1b&f5y0X" + DOT + b"\x1b&f1X\x1b&f4X\x1b&f8X" + DOT + b"\x0c", ("sends ESC&f4X at byte 21", "nothing is laid over it"), ""),
+    Row("a row that repeats", REPEATED, ("has 30 rows of no bytes by method 3 (ESC*b0W) from byte 29 on, and each repeats the row above it: 120 black dots", "ESC*b#Y"),
+        "a row of no bytes by method 3 repeats the row above it"),
+    Row("a white fill", PICTURE + b"\x1b*p0x0Y\x1b*c2a90b1P\x0c", ("has 2 black dots that a fill with white (ESC*c1P at byte 37) erases",),
+        "a fill with white erases 2 black dots"),
+    Row("nothing that is asked for", b"\x1b&l66P\x1b&a0P\x1b&l0U\x1b&l0Z\x1b&p0X" + DOT + b"\x0c", ("sends ESC&l66P",), "at 0 it asks for nothing"),
     # Text, fonts, other languages
+    Row("transparent data", b"\x1b&p3XABC\x0c", ("it is blank: it has 3 bytes of transparent data (ESC&p#X) from byte 0 on", "text leaves no marks"),
+        "no row: text leaves no marks", True),
     Row("text", b"Dear Sir\x0c", ("it is blank: it has 8 bytes of text from byte 0 on",), 'at 0 to 7: 8 bytes of text, "Dear Sir": no row: text leaves no marks', True),
     Row("fonts", b"\x1b(0U\x1b(s10H" + DOT + b"\x0c", ("sends ESC(0U at byte 0, and 1 command like it (ESC(s10H)", "fonts are left out"), "fonts are left out"),
     Row("HP-GL/2", b"\x1b%0BIN;SP1;\x1b%0A\x0c", ("it is blank: it enters HP-GL/2, and 7 commands from byte 4 on are skipped",),
@@ -102,7 +123,10 @@ ROWS = [
 BESIDE = [
     Row("white rows", b"\x1b*r0A\x1b*b1W\x00\x0c", ("it is blank: it has rows there, and none of their dots is black",), "", True),
     Row("nothing that marks", b"\x1bE\x0c", ("it is blank: it has nothing there that marks",), "", True),
-    Row("white over black", b"\x1b*c9a9b0P\x1b*c1P\x0c", ("it is blank: it has dots there that white ones replace",), "", True),
+    Row("white over black", b"\x1b*c9a9b0P\x1b*c1P\x0c", ("it is blank: it has dots there that white ones replace, the last by ESC*c1P at byte 9",), "", True),
+    Row("rows under white", PICTURE + b"\x1b*p0x0Y\x1b*c90a90b1P\x0c", ("it is blank: it has dots there that white ones replace, the last by ESC*c1P",), "", True),
+    Row("pages that move", b"\x1b*p100Y" + DOT + b"\x0c\x1b*p79Y" + DOT + b"\x0c\x1b*p58Y" + DOT + b"\x0c",
+        ("what each of its 3 pages sends first stands 21 dots above that of the page before, on side 2 by ESC*c0P at byte",)),
     Row("a blank front", b"\x1b&l1S\x1b&a2G" + DOT + b"\x0c", ("prints 2 sides, and side 1 is blank: it asks for a blank front",), "", True),
     Row("a page that is open", DOT, ("ends while a page with marks is open",), "the page closes"),
     Row("a macro that is open", b"\x1b&f0X" + DOT, ("prints no sheet: it records all in a macro that is not ended",), "recorded, in macro 0", True),

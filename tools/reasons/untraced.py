@@ -16,7 +16,7 @@ from model.values import POSITIONS_PER_INCH
 from seen import names, remarks
 from seen.sent import letters
 
-from . import groups, job_lines, named_values
+from . import following, groups, job_lines, named_values
 from .finding import counted
 
 LASER = "a LaserJet's driver does so (Ghostscript: -sDEVICE=ljet4 -r300)"
@@ -34,6 +34,8 @@ class Reason(NamedTuple):
     told: Callable = groups.sends    # of judge, the happenings of one key, and the reason
     blanks: bool = False             # whether a page may be blank by it
     harmless: bool = False           # whether no dot depends on it
+    loses: bool = False              # whether what was to be marked is not, or not all of it; of others a page is changed
+    dots: Callable = lambda happening: happening.sent.lost()
 
     def advised(self, judge, happening):
         return self.advice if isinstance(self.advice, str) else self.advice(judge, happening)
@@ -51,6 +53,14 @@ class Group(NamedTuple):
 
     def advised(self, judge):
         return self.reason.advised(judge, self.some[0])
+
+    def command(self):
+        """As it is spelled; None for what is no command of PCL."""
+        return spelled(self.some[0]) or None
+
+    def dots(self):
+        """How many black dots they lose, erase, or repeat; None where none are."""
+        return sum(self.reason.dots(each) for each in self.some) or None
 
 
 def has_no_row(happening, kind_of):
@@ -288,8 +298,6 @@ def registration(_, happening):
     key = letters(happening.placed.command)
     dots = happening.placed.command.value().tenthousandths * happening.resolution / 7200000
     side = {"&lU": ("left", "right"), "&lZ": ("above", "below")}[key]
-    if not dots:
-        return "registration is not carried out; at 0 it moves nothing"
     return (f"registration is not carried out, so the picture stands {abs(dots):g} dots {side[dots < 0]}"
             f"{' of' if key == '&lU' else ''} where a printer puts it")
 
@@ -335,7 +343,7 @@ def because_of_margin(_, happening):
             f"{'below' if dots > 0 else 'above'} where the margin before it put it")
 
 
-FONTS = {"&kS", "&pX", "&dD", "&d@", "*cD", "*cE", "*cF", "*cR", "*cS", "&tP", "&nW", "&sC", "(X", ")X", "(@", ")@", "(fW"}
+FONTS = {"&kS", "&dD", "&d@", "*cD", "*cE", "*cF", "*cR", "*cS", "&tP", "&nW", "&sC", "(X", ")X", "(@", ")@", "(fW"}
 
 
 def font(_, happening):
@@ -347,6 +355,9 @@ def font(_, happening):
 
 COLOURS = {"*vS", "*vA", "*vB", "*vC", "*vI", "*pP", "*tJ", "*mW", "*iW"}
 HANDLING = {"&lG", "&lM", "&lT", "&lP", "*oM", "*oQ", "*oD", "*rQ", "*bS", "*bX", "*oW", "*gW", "&rF", "*rF", "&bW", "*rU", "*sM"}
+
+
+LEFT_OUT = {"&aP", "&lU", "&lZ", "&pX"}   # at 0 there is nothing of it
 
 
 BACKSPACE, TAB = 0x08, 0x09
@@ -368,26 +379,39 @@ def unknown(_, happening):
 
 REASONS = [
     Reason("another language", lambda judge, each: judge.language(each) if has_no_row(each, Foreign) else None,
-           lambda *_: "skipped, up to the next universal exit", AS_PCL, groups.language, True),
+           lambda *_: "skipped, up to the next universal exit", AS_PCL, groups.language, True, loses=True),
     Reason("resolution", other_resolution, because_of_resolution, resolution_advice, blanks=True),
-    Reason("planes", colour, because_of_colour, BLACK, groups.first_of_many, True),
+    Reason("planes", colour, because_of_colour, BLACK, groups.first_of_many, True, loses=True),
     Reason("method", other_method, because_of_method, "Have the driver compress by one of these: " + LASER, blanks=True),
     Reason("dots beside the page", loses, because_of_loss,
            "Look at the resolution of its rows, where they begin, and at the page size: what is past the edge of the page, or of a row, is dropped",
-           groups.lost, True),
+           groups.lost, True, loses=True),
     Reason("data that is taken", takes_data, because_of_data, "Leave it out: " + LASER, blanks=True),
     Reason("what is left of a command", remains, lambda *_: "it is left of a command whose first bytes were taken as data",
            "", groups.silent),
     Reason("HP-GL/2", lambda _, each: "plot" if each.how == "HP-GL/2" else None, lambda *_: "HP-GL/2 is on",
-           "Send it as raster graphics; ESC%0A leaves HP-GL/2", groups.plot, True),
+           "Send it as raster graphics; ESC%0A leaves HP-GL/2", groups.plot, True, loses=True),
+    Reason("transparent data", of_letters({"&pX"}, lambda each: bool(each.placed.command.data)), lambda *_: "text leaves no marks",
+           "Send it as raster graphics; the shapes of a printer's fonts are its maker's", following.transparent, True, loses=True),
+    Reason("a macro that is not ended", lambda judge, each: each.placed.offset if id(each) in judge.following.unended else None,
+           following.because_unended, "End it by ESC&f1X, and run it", blanks=True, loses=True),
+    Reason("an overlay of nothing", lambda judge, each: each.before["macro_id"] if id(each) in judge.following.idle_overlays else None,
+           lambda _, each: f"there is no macro {each.before['macro_id']} where the page closes, or it is empty, so nothing is laid over it",
+           "Record the macro by ESC&f0X and ESC&f1X before, in the same job", blanks=True, loses=True),
+    Reason("a row that repeats", lambda judge, each: "rows" if id(each) in judge.following.repeated else None,
+           lambda *_: "a row of no bytes by method 3 repeats the row above it",
+           "Where white rows are meant, have the driver send ESC*b#Y, or another method (Netpbm: pbmtolj without -delta)", following.repeats,
+           dots=lambda each: each.sent.again),
     Reason("text", lambda _, each: "text" if has_no_row(each, Text) else None, lambda *_: "text leaves no marks",
-           "Send it as raster graphics; the shapes of a printer's fonts are its maker's", groups.text, True),
+           "Send it as raster graphics; the shapes of a printer's fonts are its maker's", groups.text, True, loses=True),
     Reason("a fill of nothing", fills_nothing, lambda *_: "it marks nothing",
            "Its rectangle has no size, lies outside the page, or its pattern does not exist", groups.fills, True),
     Reason("pattern", refuses_pattern, because_of_pattern, "It is 00 00 01 00, height and width of 16 bits each, and the rows", blanks=True),
+    Reason("a white fill", following.erases, lambda _, each: f"a fill with white erases {counted(following.erased_dots(each), 'black dot')}",
+           "Nothing is to be done where white is meant; else send it before what it shall not erase", following.erased, dots=following.erased_dots),
     Reason("rows past the raster height", comes_late, because_of_late,
-           "Have the driver send ESC*r#T with the rows that the picture has, or leave it out", groups.late, True),
-    Reason("a row that is cut", is_cut, because_of_cut, "It was cut: copy or make it again", groups.plain, True),
+           "Have the driver send ESC*r#T with the rows that the picture has, or leave it out", groups.late, True, loses=True),
+    Reason("a row that is cut", is_cut, because_of_cut, "It was cut: copy or make it again", groups.plain, True, loses=True),
     Reason("broken", lambda _, each: "broken" if has_no_row(each, Broken) else None, lambda *_: "ignored",
            "A PJL line ends with a line feed and has at most 4,096 bytes, a value field at most 32", groups.broken, True),
     Reason("value", other_value, because_of_value, "Have the driver send a value that the row names", blanks=True),
@@ -396,9 +420,13 @@ REASONS = [
            "Send this before the first page of a leaf, or not at all within the job", groups.fronts),
     Reason("registration", of_letters({"&lU", "&lZ"}, moves, False), registration, registration_advice),
     Reason("top margin", margin_is_put_back, because_of_margin, "Have the driver send ESC&l#L before ESC&l#E"),
+    Reason("margin that is put back", lambda judge, each: spelled(each) if id(each) in judge.following.put_back else None,
+           following.because_put_back, "Have the driver send ESC&l#A and ESC&l#O before ESC&l#E"),
     Reason("scaling", of_letters({"*tH", "*tV"}), lambda *_: "rows are not scaled; they have the size of their resolution",
            "Have the driver send a raster resolution that fits", groups.first_of_many),
     Reason("direction", of_letters({"&aP"}, moves, False), lambda *_: "the print direction is not carried out", "Turn the page: ESC&l#O"),
+    Reason("nothing that is asked for", of_letters(LEFT_OUT, lambda each: not moves(each)), lambda *_: "this press does not carry it out, and at 0 it asks for nothing",
+           "", groups.silent, harmless=True),
     Reason("page length", other_length, lambda _, each: f"a page length chooses no paper here, so the page size stays {each.before['size']}",
            f"Have the driver send ESC&l#A: {named_values.SIZES}"),
     Reason("presentation", turns_rows, lambda *_: "rows turn with the page here (mode 0), so the picture stands turned by a quarter",
@@ -423,7 +451,7 @@ BY_NAME = {reason.name: reason for reason in REASONS}
 def is_plain(happening):
     """A row that comes out whole meets none of them, and no place to which the cursor goes; it is asked first, since a driver sends many of these."""
     sent = happening.sent
-    return happening.how == "row" and happening.row in PLAIN and bool(happening.changes) and not (sent.right or sent.below or sent.late)
+    return happening.how == "row" and happening.row in PLAIN and bool(happening.changes) and not (sent.right or sent.below or sent.late or sent.again)
 
 
 PLAIN = ("*bW", "*pX", "*pY")
@@ -434,8 +462,10 @@ class Judge:
 
     def __init__(self, run):
         self.run = run
-        self.found = {}
+        self.found, self.sides = {}, []
         self.languages = job_lines.languages(run)
+        self.open_pages, self.blank_pages = {}, set()
+        self.following = following.Following(run)
         self.left_over = [self.rest_of_cost(each) for each in run.happenings if takes_data(self, each)]
 
     def reason_of(self, happening):
@@ -477,6 +507,15 @@ class Judge:
             some.setdefault(open_page, []).append(happening)
             open_page = happening.page
         return some
+
+    def side_of(self, happening):
+        """The number of the side on which a happening is met; None where it does not come out."""
+        if not self.open_pages:
+            self.open_pages = {id(each): page for page, some in self.on_pages().items() for each in some}
+            self.sides = self.run.side_of_page()
+        page = self.open_pages[id(happening)]
+        place = self.sides[page] if page < len(self.sides) else None
+        return None if place is None else place + 1
 
     def language(self, happening):
         """The language that the last line before it entered."""

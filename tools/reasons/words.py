@@ -19,7 +19,8 @@ USAGES = {
     "write": ["TICKET", "OUT", "[IMG..]"],
     "press": [],
 }
-OPTIONS = {"print": "--list"} | ({"press": "--engines N"} if table.includes(table.BUILT, "engines") else {})
+LISTS = ("--list", "--sums")
+OPTIONS = {"print": "--list] [--sums"} | ({"press": "--engines N"} if table.includes(table.BUILT, "engines") else {})
 HELP = ("-h", "--help", "help", "-V", "--version")
 
 
@@ -101,7 +102,7 @@ def defaults_of(what, rest):
 
 
 def request_of_rest(what, rest):
-    names, listed, options = [], False, True
+    names, listed, options = [], set(), True
     chosen, rest = defaults_of(what, rest) if what in WITH_DEFAULTS else ((), rest)
     engines, rest = engines_of(rest) if what == "press" and what in OPTIONS else (1, rest)
     for word in rest:
@@ -109,15 +110,14 @@ def request_of_rest(what, rest):
             options = False
         elif options and word in ("-h", "--help"):
             return None
-        elif options and word == "--list" and what == "print" and not listed:
-            listed = True
+        elif options and word in LISTS and what == "print" and word not in listed:
+            listed.add(word)
         elif options and word.startswith("-") and word != "-":
-            again = "twice" if word == "--list" and what == "print" else f"of {what}"
-            refuse(f"{word} is no option {again}" if again != "twice" else "--list stands twice", usage(what))
+            refuse(f"{word} stands twice" if word in listed else f"{word} is no option of {what}", usage(what))
         else:
             names.append(word)
     check_count(what, names, listed)
-    return Request(what, names, listed, engines, chosen)
+    return Request(what, names, bool(listed), engines, chosen)
 
 
 def check_count(what, names, listed):
