@@ -31,6 +31,7 @@ class Mark(NamedTuple):
     top: int
     right: int
     bottom: int
+    dots: int      # that are others than before, one as often as a step changed it
 
 
 class Happening(NamedTuple):
@@ -110,8 +111,9 @@ class Marks(Open):
         for some in changed:
             dots |= some
         first, last = patch["x"] + 8 * size - dots.bit_length(), patch["x"] + 8 * size - (dots & -dots).bit_length()
-        box = self.boxes.get(number, (first, lines[0], last, lines[-1]))
-        self.boxes[number] = (min(box[0], first), min(box[1], lines[0]), max(box[2], last), max(box[3], lines[-1]))
+        box = self.boxes.get(number, (first, lines[0], last, lines[-1], 0))
+        self.boxes[number] = (min(box[0], first), min(box[1], lines[0]), max(box[2], last), max(box[3], lines[-1]),
+                              box[4] + sum(some.bit_count() for some in changed))
 
     def taken(self):
         boxes, self.boxes = self.boxes, {}

@@ -9,8 +9,8 @@ from model import pages
 
 from . import pdf, png, program, traced
 
-RESOLUTIONS = {(size.width, size.height): size.resolution
-               for plain in pages.SIZES.values() for size in (plain.at(resolution) for resolution in (300, 600))}
+MEDIA = {(size.width, size.height): size for plain in pages.SIZES.values() for size in (plain.at(resolution) for resolution in (300, 600))}
+RESOLUTIONS = {shape: size.resolution for shape, size in MEDIA.items()}
 TEMPLATE = "page-%d.pbm"
 NUMBER_OF_SHEET = re.compile(rb"^sheet (\d+) ", re.MULTILINE)
 DELIVERED, SHEETS = re.compile(rb'"delivered":(\d+)'), re.compile(rb'"sheets":(\d+)')
@@ -28,7 +28,11 @@ class Fault(Exception):
 
 
 def print_into(folder, stream, chosen=program.PROGRAM):
-    replies = asked(["print", "-", TEMPLATE], stream, chosen, folder)
+    return listed_in(folder, stream, asked(["print", "-", TEMPLATE], stream, chosen, folder), chosen)
+
+
+def listed_in(folder, stream, replies, chosen=program.PROGRAM):
+    """The same of a stream that is printed already: its files stand in the folder, and these are its replies."""
     listed = asked(["print", "--list", "-"], stream, chosen, folder)
     names = [folder / TEMPLATE.replace("%d", str(number)) for number in range(1, len(list(folder.glob("page-*.pbm"))) + 1)]
     return Printed(listed[:len(listed) - len(replies)], replies, names, program.who(chosen))
@@ -49,10 +53,6 @@ def page_of(name):
     width, height = int(header[1]), int(header[2])
     stride, data = (width + 7) // 8, side[header.end():]
     return pdf.Page(width, [data[start:start + stride] for start in range(0, stride * height, stride)], RESOLUTIONS[width, height])
-
-
-def is_blank(page):
-    return not any(map(any, page.rows))
 
 
 def count_sides(stream, chosen=program.PROGRAM):

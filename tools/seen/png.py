@@ -16,6 +16,7 @@ HEADER = re.compile(rb"P4" + SPACE + rb"+(\d+)" + SPACE + rb"+(\d+)(?:#[^\n\r]*)
 MOST_IN_A_BYTE = 255
 INVERTED = bytes(255 - byte for byte in range(256))   # a PNG's 1 is white
 METRES_PER_INCH = 0.0254
+GREY, BY_PALETTE = 0, 3
 PACKED = 4   # of zlib: of a halftone a tenth of the time of 9, and a file 6 per cent larger; of a page with little on it half as large again
 FRAME = 128
 PAPER = 255
@@ -111,9 +112,9 @@ def chunk(name, data):
     return struct.pack(">I", len(data)) + name + data + struct.pack(">I", zlib.crc32(name + data))
 
 
-def file_of(width, height, depth, data, about=b""):
-    """A grey PNG of rows that begin with the byte of their filter, 0."""
-    head = struct.pack(">IIBBBBB", width, height, depth, 0, 0, 0, 0)
+def file_of(width, height, depth, data, about=b"", colours=GREY):
+    """A PNG of rows that begin with the byte of their filter, 0."""
+    head = struct.pack(">IIBBBBB", width, height, depth, colours, 0, 0, 0)
     return b"\x89PNG\r\n\x1a\n" + chunk(b"IHDR", head) + about + chunk(b"IDAT", zlib.compress(data, PACKED)) + chunk(b"IEND", b"")
 
 
@@ -130,13 +131,13 @@ def png_of_dots(width, rows, resolution):
 
 
 def rows_of(data):
-    """The rows of a PNG that `png` made."""
-    width, height = struct.unpack(">II", data[16:24])
-    packed, place = b"", 8
+    """The rows of a PNG that was made here, each as its bytes."""
+    width, height, depth = struct.unpack(">IIB", data[16:25])
+    packed, place, size = b"", 8, (width * depth + 7) // 8
     while place < len(data):
         (length,) = struct.unpack(">I", data[place : place + 4])
         if data[place + 4 : place + 8] == b"IDAT":
             packed += data[place + 8 : place + 8 + length]
         place += 12 + length
     plain = zlib.decompress(packed)
-    return [plain[start + 1 : start + 1 + width] for start in range(0, height * (width + 1), width + 1)]
+    return [plain[start + 1 : start + 1 + size] for start in range(0, height * (size + 1), size + 1)]

@@ -19,6 +19,7 @@ class Sent(NamedTuple):
     right: int = 0    # of the black ones, past the right edge of the page or of the row
     below: int = 0    # of the others, past the lower edge
     late: int = 0     # rows behind the raster height
+    again: int = 0    # black dots of rows of no bytes, which repeat the row above them
 
     def plus(self, other):
         return other if self is NOTHING else Sent(*map(sum, zip(self, other)))
@@ -63,6 +64,9 @@ class Seed:
         else:
             self.row, self.waiting = rows.decode(method, data, bytes(WIDE_BYTES)), []
             self.reach = len(self.row.rstrip(b"\0"))
+
+    def count_black(self):
+        return int.from_bytes(self.decoded(), "big").bit_count()
 
     def decoded(self):
         for data in self.waiting:
@@ -119,6 +123,8 @@ class Watcher:
                 sent = sent.plus(Sent(late=1))
                 continue
             self.seed.follow(method, each)
+            if method == rows.DELTA_ROW and not each:
+                sent = sent.plus(Sent(again=self.seed.count_black()))
             sent = sent.plus(WHOLE_ROW if marks and place.holds(self.seed.reach) else place.sent(self.seed.decoded()))
             place.go_on()
         return sent

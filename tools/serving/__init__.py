@@ -1,0 +1,1 @@
+"""What tools/printer is made of."""
