@@ -11,7 +11,7 @@ _press() {
   elif [ "${COMP_WORDS[COMP_CWORD-1]}" = --default ]; then
     mapfile -t COMPREPLY < <(compgen -W "$defaults" -- "$word")
   elif [ "$first" = print ] && [[ "$word" == -* ]]; then
-    mapfile -t COMPREPLY < <(compgen -W "--list --default" -- "$word")
+    mapfile -t COMPREPLY < <(compgen -W "--list --sums --default" -- "$word")
   elif [[ "$first" = @(debug|trace|page) ]] && [[ "$word" == -* ]]; then
     mapfile -t COMPREPLY < <(compgen -W "--default" -- "$word")
   elif [ "$first" = press ] && [ "${COMP_WORDS[COMP_CWORD-1]}" = --engines ]; then
@@ -22,5 +22,28 @@ _press() {
     mapfile -t COMPREPLY < <(compgen -f -- "$word")
   fi
 }
+# `tools/why` takes the words of `press`, behind --json or not
+_why() {
+  if [ "$COMP_CWORD" -eq 1 ] && [[ "${COMP_WORDS[1]}" == --j* ]]; then
+    COMPREPLY=(--json)
+    return
+  fi
+  if [ "${COMP_WORDS[1]}" = --json ]; then
+    COMP_WORDS=("${COMP_WORDS[0]}" "${COMP_WORDS[@]:2}")
+    COMP_CWORD=$((COMP_CWORD - 1))
+  fi
+  _press
+}
 complete -o filenames -F _press press ./press
-complete -o filenames -F _press tools/why
+complete -o filenames -F _why tools/why
+_network() {
+  local word="${COMP_WORDS[COMP_CWORD]}"
+  if [ "${COMP_WORDS[0]}" = tools/scrub ] && [[ "$word" == -* ]]; then
+    mapfile -t COMPREPLY < <(compgen -W "--pass --sides --bytes --seconds --memory --default" -- "$word")
+  elif [[ "$word" == -* ]]; then
+    mapfile -t COMPREPLY < <(compgen -W "--port --listen --jobs --bytes --sides --idle --seconds --memory --default" -- "$word")
+  else
+    mapfile -t COMPREPLY < <(compgen -f -- "$word")
+  fi
+}
+complete -o filenames -F _network tools/printer tools/scrub

@@ -13,6 +13,8 @@ TEXTS = [
     ("par *b2W 02f0", b"\x1b*b2W\x02\xf0"),
     ("par *b0W", b"\x1b*b0W"),
     ("par *b-3W", b"\x1b*b-3W"),
+    ("par *b+2W 0102", b"\x1b*b+2W\x01\x02"),
+    ("par *p" + "1" * 32 + "X", b"\x1b*p" + b"1" * 32 + b"X"),
     ("par *b1.9V 0a", b"\x1b*b1.9V\x0a"),
     ("par &p1X 1B", b"\x1b&p1X\x1b"),
     ("par %1W 00", b"\x1b%1W\x00"),
@@ -234,7 +236,8 @@ ROWS += [("disasm -", 0, text, stream) for stream, text, _ in STREAMS]
 ROWS += [("asm - /dev/stdout", 0, assembled, text.encode()) for _, text, assembled in STREAMS]
 ROWS += [("disasm -", 0, text, assembled) for _, text, assembled in STREAMS]
 ROWS += [("disasm -", 0, text, stream) for stream, text in CUT]
-# A signed count of data; the 33rd byte of a field without group; an ESC before the exit of another language; data with an exit inside; a negative count.
+# A signed count of data; the 33rd byte of a field without group; an ESC before the exit of another language; data with an exit inside; a negative count; data
+# with a line inside; a space in a field; the 33rd and the 32nd byte of a later field; an exit behind a lower-case end; no group and no field.
 SELDOM = [
     (b"\x1b*b+2W\x01\x02A", "par *b+2W 0102\ntxt 41\n"),
     (b"\x1b%" + b"1" * 33 + b"A", "brk 1B25" + "31" * 32 + "\ntxt 31\ntxt 41\n"),
@@ -242,5 +245,12 @@ SELDOM = [
     (b"\x1b%-12345X@PJL ENTER LANGUAGE=X\n\x1b\x1b%-12345X~", "uel\npjl 40504A4C20454E544552204C414E47554147453D580A\nfor 1B\nuel\ntxt 7E\n"),
     (b"\x1b*b9W\x1b%-12345XA", "par *b9W 1B252D313233343558\ntxt 41\n"),
     (b"\x1b*b-2WAB", "par *b-2W\ntxt 41\ntxt 42\n"),
+    (b"\x1b*b7W@PJL x\nA", "par *b7W 40504A4C20780A\ntxt 41\n"),
+    (b"\x1b*p 10X", "brk 1B2A70\ntxt 20\ntxt 31\ntxt 30\ntxt 58\n"),
+    (b"\x1b*p1x" + b"1" * 33 + b"X", "par *p1X\nbrk 1B2A70" + "31" * 32 + "\ntxt 31\ntxt 58\n"),
+    (b"\x1b*p1x" + b"1" * 32 + b"X", "par *p1X\npar *p" + "1" * 32 + "X\n"),
+    (b"\x1b*p1x\x1b%-12345X@PJL\n", "par *p1X\nuel\npjl 40504A4C0A\n"),
+    (b"\x1b(X\x1b%A", "par (X\npar %A\n"),
+    (b"\x1f", "ctl 1F\n"),
 ]
 ROWS += [("disasm -", 0, text, stream) for stream, text in SELDOM]

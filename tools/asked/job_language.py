@@ -179,5 +179,19 @@ QUERIES = [
 # the longest line that is one
 LONGEST = [(b"@PJL ECHO " + b"x" * 4085 + b"\n", b"@PJL ECHO " + b"x" * 4085 + b"\r\n\x0c")]
 
-LISTS = [COPIES, PAPER, ORIENTATION, DUPLEX, BINDING, RESOLUTION, DEFAULTS, OTHERS, QUERIES, LONGEST]
+# each variable, its factory value and another one
+VARIABLES = [("COPIES", "1", "7"), ("PAPER", "LETTER", "A4"), ("ORIENTATION", "PORTRAIT", "LANDSCAPE"), ("DUPLEX", "OFF", "ON"), ("BINDING", "LONGEDGE", "SHORTEDGE"),
+             ("RESOLUTION", "300", "600")]
+
+
+def inquired(values):
+    """Both questions for each variable, whose answer is the same."""
+    return [(f"@PJL {question} {name}\n".encode(), f"@PJL {question} {name}\r\n{value}\r\n\f".encode()) for name, value in values for question in ("INQUIRE", "DINQUIRE")]
+
+
+# a default of each, which becomes the current value, and the factory values again
+EACH = [*((f"@PJL DEFAULT {name}={other}\n".encode(), b"") for name, _, other in VARIABLES), (b"@PJL RESET\n", b""), *inquired([(name, other) for name, _, other in VARIABLES]),
+        (b"@PJL INITIALIZE\n", b""), *inquired([(name, factory) for name, factory, _ in VARIABLES])]
+
+LISTS = [COPIES, PAPER, ORIENTATION, DUPLEX, BINDING, RESOLUTION, DEFAULTS, OTHERS, QUERIES, LONGEST, EACH]
 ROWS = [("", 0, b"".join(reply for _, reply in lines), b"".join(EXIT + line for line, _ in lines)) for lines in LISTS]

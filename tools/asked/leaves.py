@@ -2,11 +2,13 @@
 
 The prelude stands with a mark on the page, raster graphics and a waiting front each there or not; with all three the command also stands in a macro that is
 executed, in one that is called, and in an overlay. Of each stream the whole trace is wanted, but for how large its boxes are, and the listing; leaves.txt has
-the digest of both (seen/effects.py), which the model made: `tools/pinned --write-leaves` writes it. Streams are spelled as in `pages`.
+the digest of both (seen/effects.py), which the model made: `tools/pinned --write-leaves` writes it. Streams are spelled as in `pages`. Those of
+`values` stand behind them.
 """
 
 from pathlib import Path
 
+from asked import values
 from asked.pages import stream_of
 
 PATH = Path(__file__).resolve().parent / "leaves.txt"
@@ -52,7 +54,7 @@ def streams():
             yield f"{name}, {where}", stream_of(prelude(*ALL) + run.replace("{}", command) + PROBE)
 
 
-STREAMS = dict(streams())
+STREAMS = dict(streams()) | values.STREAMS
 
 
 def wanted():

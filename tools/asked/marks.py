@@ -89,6 +89,12 @@ RASTER = {
     "a skip goes past the source height": ("^*t300R^*r1T^*r0A^*b5Y^*rB^*c1a1b0P~", [(75, 192, 1, 1)]),
     "rows of a block that are empty": ("^*t300R^*b5m7W[04000300000180]~", [(75, 190, 1, 1)]),
     "no blocks start raster graphics": ("^*t300R^*b5m0W^*t75R^*b0m1W[80]~", [(75, 187, 1, 1)]),
+    "a byte 128 times": ("^*t300R^*b2m2W[81FF]~", [(75, 187, 1024, 1)]),
+    "a row has no dot that is partly past the logical page": (f"^*p1X^*r1A^*b75W[{'FF' * 75}]~", [(76, 187, 2396, 4)]),
+    "a row without width moves the cursor down": ("^*t300R^*p9999X^*r1A^*b1W[80]^*b1W[80]^*rC^*p0X^*c1a1b0P~", [(75, 189, 1, 1)]),
+    "a row without width counts": ("^*t300R^*r1T^*p9999X^*r1A^*b1W[80]^*b1W[80]^*rC^*p0X^*c1a1b0P~", [(75, 188, 1, 1)]),
+    "a row past the source height leaves the cursor": ("^*t300R^*r1T^*r0A^*b1W[80]^*b1W[80]^*rC^*c1a1b0P~", [(75, 187, 1, 2)]),
+    "rows stop at the end of the page": ("^*t300R^*p3149Y^*r0A^*b1W[00]^*b1W[00]^*b5Y^*rC^*p-1Y^*c1a1b0P~", [(75, 3299, 1, 1)]),
 }
 
 # Rows of the tiles, from the least shading up to the greatest per cent of each.
@@ -139,6 +145,7 @@ PATTERNS |= {
     "a permanent pattern": (f"{BLACK}^*c5Q^E{SHOWS}", SHOWN),
     "a pattern that is defined again is temporary": (f"{BLACK}^*c5Q{BLACK}^E{SHOWS}", []),
     "a permanent pattern that is made temporary": (f"{BLACK}^*c5q4Q^E{SHOWS}", []),
+    "a permanent pattern stays so where another one is made temporary": (f"{BLACK}^*c5q6g4Q^E{SHOWS}", SHOWN),
     "no permanent pattern before it is defined": (f"^*c5g5Q{BLACK}^E{SHOWS}", []),
     "all patterns are deleted": (f"{BLACK}^*c5Q^*c6g0Q{SHOWS}", []),
     "temporary patterns are deleted": (f"{BLACK}^*c6g1Q{SHOWS}", []),
@@ -160,6 +167,7 @@ PATTERNS |= {
     "the current pattern that is deleted is black": (f"{WHITE}^*v4T^*c2Q^*c2a1b5P~", SHOWN),
     "a pattern that there is not leaves the current one": ("^*v1T^*c7G^*v4T^*c2a1b5P~", []),
     "a shading that there is not leaves the current one": ("^*v1T^*c0G^*v2T^*c2a1b5P~", []),
+    "a cross-hatch that there is not leaves the current one": ("^*v1T^*c0G^*v3T^*c2a1b5P~", []),
     "the current pattern is black again": ("^*v1t0T^*c2a1b5P~", SHOWN),
     "a source transparency that there is not": ("^*c8a1b0P^*v1n2N^*t300R^*r8S^*r0A^*b1W[0F]~", [(79, 187, 4, 1)]),
     "a pattern transparency that there is not": ("^*c4a1b0P^*v1o2O^*c1G^*c4a1b2P~", []),
@@ -168,7 +176,11 @@ PATTERNS |= {
     "a rectangle is as wide and high as it begins": ("^*p0x0Y^*c1h25v0P~", [(75, 150, 1, 11)]),
     "a rectangle between dots": ("^&a10h0V^*c24h24v0P~", [(79, 150, 10, 10)]),
     "a rectangle of a fraction": ("^*c1.5a1b0P~", [(75, 187, 2, 1)]),
+    "the size of a rectangle with a sign is no move": ("^*c2a+3A^*c1b0P~", [(75, 187, 3, 1)]),
     "no negative size of a rectangle": ("^*c5a5b-3a0P~", [(75, 187, 5, 5)]),
+    "no negative height of a rectangle": ("^*c5a5b-3b0P~", [(75, 187, 5, 5)]),
+    "no negative width of a rectangle in decipoints": ("^*c5a5b-30h0P~", [(75, 187, 5, 5)]),
+    "no negative height of a rectangle in decipoints": ("^*c5a5b-30v0P~", [(75, 187, 5, 5)]),
     "a rectangle in a pattern that there is not": ("^*c5a5b4P~", []),
     "a rectangle leaves the cursor": ("^*c5a1b0P^*c1a5b0P~", [(75, 187, 5, 1), (75, 188, 1, 4)]),
 }
@@ -212,6 +224,9 @@ MACROS = {
     "a form feed in an overlay stays down": (f"^&f1y0X^*p10x0Y~{BOX}^&f1x4X~", [(85, 150, 1, 1)]),
     "a form feed in an overlay leaves raster graphics on": (f"^&f1y0X{ON}~{TELLS[:-1]}^&f1x4X~", STILL),
     "a line feed in an overlay goes past the text area": (f"^&f1y0X^*p2951Y|{BOX}^&f1x4X~", [(75, 3151, 1, 1)]),
+    "a half line feed in an overlay goes past the text area": (f"^&f1y0X^*p2976Y^={BOX}^&f1x4X~", [(75, 3151, 1, 1)]),
+    "a carriage return in an overlay goes to the left margin": (f"^&f1y0X^*p10X<{BOX}^&f1x4X~", [(75, 187, 1, 1)]),
+    "a line feed in an overlay goes to the left margin by line termination 2": (f"^&f1y0X^&k2G^*p10X|{BOX}^&f1x4X~", [(75, 237, 1, 1)]),
     "an orientation in an overlay leaves the motion index": (f"^&f1y0X^&l4d0O^&a1R{BOX}^&f1x4X~", [(75, 281, 1, 1)]),
     "a page size in an overlay does not close": (f"^&f1y0X{BOX}^&l2A^*p5x0Y{BOX}^&f1x4X~", [(75, 187, 1, 1), (80, 150, 1, 1)]),
     "an orientation in an overlay does not close": (f"^&f1y0X{BOX}^&l0O^*p5x0Y{BOX}^&f1x4X~", [(75, 187, 1, 1), (80, 150, 1, 1)]),
@@ -229,6 +244,7 @@ MACROS = {
         ("^&f4y0X^*c4a1b0P^&f1X^&f1y0X^&f4y2X^&f1x4X^&f2y0X~^&f1X^&f3y0X^&f2y2X^&f1x2X", [(75, 187, 4, 1)]),
     "no third macro runs behind one that has ended":
         (f"{ONE}^&f2y0X^&f1y2X^&f1X^&f3y0X^&f2y2X^&f1X^&f5y0x1x2X^&f3y2X~", []),
+    "no third macro is called": (f"{ONE}^&f2y0X^&f1y3X^&f1X^&f3y0X^&f2y3X^&f1x3X~", []),
     "no second macro runs in an overlay":
         ("^&f5y0X^*c4a1b0P^&f1X^&f4y0X^&f5y2X^&f1X^&f1y0X^&f4y2X^&f1x4X~", []),
 }

@@ -7,12 +7,14 @@ from typing import NamedTuple
 
 from asked.disk import ANSWER, FEED, SIDES
 from asked.full import ECHO
+from asked.traces import POWER_ON, lines_of
 
 EXIT = b"\x1b%-12345X"
 MARK = b"\x1b*c9a9b0P"
 INQUIRE, COPIES = EXIT + b"@PJL INQUIRE COPIES\n", b"@PJL INQUIRE COPIES\r\n1\r\n\x0c"
 LIST = "print --list -"
 UNREAD = "fault 304\n"
+TRACED = lines_of((0, 1, "ctl 0C", {"delivered": 1, "sheets": 1, "view": {"settings": POWER_ON["settings"] | {"sheets_of_job": 1}}})).encode()
 
 
 class Row(NamedTuple):
@@ -44,6 +46,9 @@ ROWS = [
     Row("a reply on an output that is full", LIST, ECHO, b"", UNREAD + "fault output\n", is_full=True),
     Row("a reply beside files, which comes at once", "print - side-%d", ECHO, ANSWER, early=len(ANSWER)),
     Row("a text that is assembled", "asm - made", b"uel\n", b""),
+    Row("the trace of the steps before, and not of what stands in no whole command", "trace -", FEED + b"\x1b*c9", TRACED),
+    Row("no step of a trace", "trace -", b"\x1b*c9", b""),
+    Row("a page of a step is of a whole stream", "page - 1 made", FEED, b""),
     Row("answers of a press, each at once", "press", b"pause\nwhat\nturn 1", b"ok\nwhat?\n", early=9),
     Row("those of a debugger", "debug empty", b"step\nwhat\n", b"stepped step 1 depth 0 x 0 y 900\nwhat?\n", early=38),
 ]

@@ -292,6 +292,9 @@ ROWS += [("print - page-%d.pbm", 0, [page([(75, 187, 3, 2)]), page([], scale=2)]
 # in duplex: a front with a box, a white back, and a white front alone
 ROWS += [("print - page-%d.pbm", 0, [page([(75, 150, 3, 2)]), page([]), page([])], stream_of("^&l1S^*p0x0Y^*c3a2b0P~~~"))]
 
+# neither binding turns a back
+ROWS += [("print - page-%d.pbm", 0, [page([(75, 150, 3, 2)]), page([(75, 150, 1, 1)])], stream_of(f"^&l{sides}S^*p0x0Y^*c3a2b0P~^*p0x0Y^*c1a1b0P~")) for sides in (1, 2)]
+
 # How the second of three files is made one that cannot be made, or that can be opened and takes no byte.
 BROKEN = {"folder": lambda path: path.mkdir(), "full": lambda path: path.symlink_to("/dev/full")}
 ROWS += [(f"print - {name}-%d.pbm", 1, "fault 301\n", b"\x0c\x0c\x0c") for name in BROKEN]

@@ -157,6 +157,11 @@ SPELLED = [
     entry("SetQueueEntryPosition", 3, 21, Position=9),
 ]
 
+# Messages that lack a parameter, or have one of another kind.
+OTHERS = {"SetQueueEntryPriority": {"Priority": 50}, "SetQueueEntryPosition": {"Position": 0}}
+LACKING = [ask(kind, 7, **OTHERS.get(kind, {})) for kind, _, _ in OF_ENTRIES] + [ask(kind, 6, QueueEntryID=1, **OTHERS.get(kind, {})) for kind, _, _ in OF_ENTRIES]
+LACKING += [ask("SetQueueEntryPosition", 7, QueueEntryID="Q1"), ask("SubmitQueueEntry", 7), entry("SetQueueEntryPriority", 1, 6, Priority="50")]
+
 # Texts that are no message, and messages without ID or type.
 FAULTY = [
     # what an ID is answered as
@@ -189,6 +194,7 @@ FULL = [(number, "Waiting", 50) for number in range(1, 65)]
 SESSIONS += [
     session(submit(1), submit(2), *REFUSED),
     session(submit(1), submit(2), *SPELLED),
+    session(submit(1), *LACKING, queue("Waiting", (1, "Waiting", 50))),
     # a priority of which nothing is said
     session(ask("SubmitQueueEntry", 0, "dot", answer={"QueueEntryID": "Q1"}, Ticket=json.loads(TICKET)), queue("Waiting", (1, "Waiting", 50))),
     # the ticket and its images are judged before the queue is asked, and the status of an entry before what it is given
@@ -255,6 +261,14 @@ SESSIONS += [
     # a held queue begins no entry, and goes on with one
     session(submit(1), ask("HoldQueue", 0), turn(1, "-", 0), ask("ResumeQueue", 0), turn(1, "Q1", 1), ask("HoldQueue", 0),
             turn(2, "Q1", 2), device("Running", "Q1")),
+    # a suspended entry stays at its place; resumed it waits, and a flush takes it though it has begun; numbers go on
+    session(submit(1), submit(2), turn(1, "Q1", 1), entry("SuspendQueueEntry", 1, 0), queue("Waiting", (1, "Suspended", 50), (2, "Waiting", 50)),
+            entry("ResumeQueueEntry", 1, 0), queue("Waiting", (1, "Waiting", 50), (2, "Waiting", 50)), ask("FlushQueue", 0), queue("Waiting"), submit(3)),
+    # a held entry stays held where its priority or its position is set; a position counts entries that have ended
+    session(submit(1), submit(2), submit(3), entry("HoldQueueEntry", 3, 0), entry("SetQueueEntryPriority", 3, 0, Priority=70),
+            queue("Waiting", (3, "Held", 70), (1, "Waiting", 50), (2, "Waiting", 50)), entry("SetQueueEntryPosition", 3, 0, Position=1),
+            queue("Waiting", (1, "Waiting", 50), (3, "Held", 70), (2, "Waiting", 50)), entry("AbortQueueEntry", 1, 0),
+            entry("SetQueueEntryPosition", 2, 0, Position=1), queue("Waiting", (1, "Aborted", 50), (2, "Waiting", 50), (3, "Held", 70))),
     # what is suspended goes on where it stood, behind what ran meanwhile; a flush takes it off the list
     session(submit(1), turn(14, "Q1", 14), entry("SuspendQueueEntry", 1, 0), entry("SuspendQueueEntry", 1, 22), turn(1, "-", 0),
             device("Idle"), submit(2), turn(ALL, "Q2", 19), entry("ResumeQueueEntry", 1, 0), turn(1, "Q1", 1),

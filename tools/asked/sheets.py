@@ -5,7 +5,7 @@ sides, page sizes, the counts and the status of the job language. All were worke
 from asked.pages import stream_of
 
 LETTER, A4 = "2550x3300", "2480x3507"
-BOX = "^*c1a1b0P"
+BOX, FOUR = "^*c1a1b0P", "^*c4a1b0P"
 
 
 def line(words):
@@ -19,12 +19,16 @@ CLOSES = {
     "a rectangle without height": ("^*c5a0b0P^E", []),
     "a rectangle whose size was set to 0": ("^*c5a5b0a0P^E", []),
     "a white rectangle marks": ("^*c5a5b1P^E", [(0,)]),
+    "a rectangle in a white tile marks": ("^*c9G^*c9W[000001000001000100]^*c5a5b4P^E", [(0,)]),
     "a rectangle outside of the page marks": ("^*p9999Y^*c1a1b0P^E", [(0,)]),
     "a rectangle in a pattern that there is not": ("^*c5a5b4P^E", []),
     "a rectangle filled by 6": ("^*c5a5b6P^E", []),
     "a move marks nothing": ("^*p10x10Y^E", []),
     "a white row marks": ("^*b1W[00]^E", [(0,)]),
     "a row past the source height marks nothing": ("^*t300R^*r1T^*r0A^*b65535Y^*b1Y^*b1W[80]^E", []),
+    "empty rows of a block mark": ("^*b5m3W[040001]^E", [(0,)]),
+    "a row without width marks": ("^*p9999X^*r1A^*b1W[80]^E", [(0,)]),
+    "a reset puts HP-GL/2 off before the page closes": (f"^&f2y0X^*c4a1b0P^&f1x4X^*p100x100Y{BOX}^%0B^E", [(5,)]),
     "a reset closes a marked page alone": (f"^E{BOX}^E^E", [(1,)]),
     "a reset delivers a front in the copies of before": ("^&l1S^&l3X~^E", [(0,), (0,), (0,)]),
     "a reset delivers a page in the copies of before": (f"^&l3X{BOX}^E", [(1,), (1,), (1,)]),
@@ -61,6 +65,7 @@ CLOSES = {
         (f"^&f1y0X{BOX}^&f1x4X^&f4y0X^*p10X{BOX}^&f1X^&f2y0X~^&f4y2X^&f1X^&f3y0X^&f2y2X^&f1x2X~", [(1,), (1,)]),
     "a side that there is not": (f"{BOX}^&a3G{BOX}~", [(1,)]),
     "copies of 0": ("^&l2x0X~", [(0,), (0,)]),
+    "copies below 0": ("^&l2x-3X~", [(0,), (0,)]),
     "copies above 999": ("^&l2000X~", [(0,)] * 999),
     "a call leaves duplex": ("^&f1y0X^&l1S^&f1x3X~~", [(0, 0)]),
     "a call leaves a front": ("^&l1S^&f1y0X~^&f1x3X~", [(0, 0)]),
@@ -68,6 +73,9 @@ CLOSES = {
     "an execute leaves copies": ("^&f1y0X^&l3X^&f1x2X~", [(0,), (0,), (0,)]),
     "copies of an overlay": ("^&f1y0X^&l3X^&f1x4X~", [(0,)]),
     "duplex leaves the overlay on": ("^&f1y0X^*c2a1b0P^&f1x4X^&l1S~", [(2,)]),
+    "an overlay that deletes its own macro runs on": (f"^&f1y0X^&f1y8X{FOUR}^&f1x4X~~", [(4,), (0,)]),
+    "an overlay that puts itself off runs on": (f"^&f1y0X^&f5X{FOUR}^&f1x4X~~", [(4,), (0,)]),
+    "an overlay whose macro is deleted and defined again": (f"^&f1y0X{BOX}^&f1x4x8x0X{FOUR}^&f1X~", [(4,)]),
     "an overlay under a front and under its back": ("^&l1S^&f1y0X^*c2a1b0P^&f1x4X~~", [(2, 2)]),
     "the front side in an overlay delivers no front": (f"^&l1S^&f1y0X^&a1G{BOX}^&f1x4X~~", [(1, 1)]),
     "the back side in an overlay makes no front": (f"^&l1S^&f1y0X^&a2G{BOX}^&f1x4X~~", [(1, 1)]),
@@ -79,6 +87,11 @@ CLOSES = {
     "a duplex page that closes in a second macro, with an overlay that runs a macro":
         ("^&l1S^&f4y0X^*c4a1b0P^&f1X^&f1y0X^&f4y2X^&f1x4X^&f2y0X~^&f1X^&f3y0X^&f2y2X^&f1x2X~", [(4, 4)]),
 }
+
+# What closes no page in a macro that an overlay runs, behind a box of four dots or before it.
+IN_ITS_MACRO = {"a form feed": f"{FOUR}~", "a line feed": f"{FOUR}^*p3150Y|", "the paper source": f"{FOUR}^&l1H", "the next side": f"{FOUR}^&a0G", "simplex": f"{FOUR}^&l0S",
+                "a page size": f"{FOUR}^&l2A", "an orientation": f"{FOUR}^&l0O"}
+CLOSES |= {f"{name} in a macro that an overlay runs": (f"^&f4y0X{text}^&f1X^&f1y0X^&f4y2X^&f1x4X~", [(4,)]) for name, text in IN_ITS_MACRO.items()}
 
 # Sizes: the number of the command, the name in the job language, width and height, and the space at the left in portrait and in landscape.
 SIZES = [(1, "EXECUTIVE", 2175, 3150, 75, 60), (2, "LETTER", 2550, 3300, 75, 60), (3, "LEGAL", 2550, 4200, 75, 60),

@@ -82,6 +82,19 @@ BODY = asked(
     (22, 3, "brk", {}),
     (25, 0, "uel", {"x": 0, "view": {"macros": {"id": 0}}}),
 )
+# Broken bytes and what broke them are recorded, and are steps of the macro.
+BROKEN = asked(
+    b"\x1b&f1y0X\x1b*p\x01\x1b&f1x2X",
+    (0, 5, "par &fY", {"view": {"macros": POWER_ON["macros"] | {"id": 1}}}),
+    (5, 2, "par &fX", {"view": {"macros": {"defining": 1}}}),
+    (7, 3, "brk", {"recorded": True}),
+    (10, 1, "ctl 01", {"recorded": True}),
+    (11, 5, "par &fX", {"view": {"macros": {"defining": None}}}),
+    (16, 2, "par &fX", {"depth": 1}),
+    (16, 2, "brk", {}),
+    (16, 2, "ctl 01", {"depth": 0}),
+    (18, 0, "uel", {"view": {"macros": {"id": 0}}}),
+)
 # A reply, and places that are pushed.
 REPLIES = asked(
     b"@PJL ECHO a\"\xe9\n\x1b%-12345X\x1b&f0S",
@@ -228,4 +241,4 @@ REFUSED = [
     ("trace /", 1, "fault 304\n", b""),
 ]
 
-ROWS = [EMPTY, BOX, MARKS, BODY, REPLIES, CONTROLS, DRAWING, LINES, ROWS_OF_RASTER, MEDIA, VARIABLES_SET, COUNTS, *TURNED, SET, *REFUSED]
+ROWS = [EMPTY, BOX, MARKS, BODY, BROKEN, REPLIES, CONTROLS, DRAWING, LINES, ROWS_OF_RASTER, MEDIA, VARIABLES_SET, COUNTS, *TURNED, SET, *REFUSED]

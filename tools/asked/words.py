@@ -2,6 +2,11 @@
 
 PAGE = "sheet 1 front 2550x3300 black 0\n"
 FEED = b"\x0c"
+# The digests are those of sha256sum, of the files that `print` makes.
+SUMMED = "sheet 1 front 2550x3300 black 0 sha256 0efb9bfba2b448a78ac637cd824856b5c4392b5d2f344a99f68538fb43af9c31\n"
+SUMMED_A4 = "sheet 1 front 2480x3507 black 0 sha256 2509944b08e5e14b7637a5a2f5d773a869ce9eef440c27d0c92574683a5dfe90\n"
+SUMS_OF_SIDES = (b"sheet 1 front 2550x3300 black 6 sha256 9ccf383699e8494843ec08b326593eb5bacbbaabc4c7479cdce016854c6e5453\n"
+                 b"sheet 1 back 2550x3300 black 8 sha256 df68d449507a1b1687852b74a45775feeeeaa448afc534d222950fb01fb9001f\n")
 USAGE = ("usage: press print IN OUT, press print --list IN, press asm IN OUT, press page IN K OUT or press write TICKET OUT [IMG...], "
          "where OUT is a file and not - and K is a number, press debug IN, where IN is a file and not -, or press press [--engines N], where N is a number\n")
 
@@ -18,6 +23,12 @@ ROWS = [
     ("", 0, PAGE, FEED),
     ("print --list -", 0, PAGE, FEED),
     ("print - a.pbm --list", 0, PAGE, FEED),
+    ("print --list --sums -", 0, SUMMED, FEED),
+    ("print --sums -", 0, SUMMED, FEED),
+    ("print --sums --default PAPER=A4 - a.pbm", 0, SUMMED_A4, FEED),
+    ("print --list --sums --sums -", 2, "error: the argument '--sums' cannot be used multiple times\n\nUsage: press print [OPTIONS] <IN> [OUT]" + MORE, FEED),
+    ("print --sums no/such", 1, "fault 304\n", FEED),
+    ("print --sums --list -", 0, SUMS_OF_SIDES + b"@PJL ECHO A\r\n\x0c", b"\x1b%-12345X@PJL ECHO A\n\x1b&l1S\x1b*c3a2b0P\x0c\x1b*c4a2b0P\x0c"),
     ("print --list no/such", 1, "fault 304\n", FEED),
     ("print no/such a.pbm", 1, "fault 304\n", FEED),
     ("print none-1.pbm none-%d.pbm", 1, "fault 304\n", FEED),

@@ -5,11 +5,14 @@ A stream that is printed with such defaults is one that these bytes begin: for e
 stands round name and value.
 """
 
+import re
+
 from . import pjl
 
 # Whether the program has `print --default NAME=VALUE`. Whoever builds it turns this; what the tools advise follows.
 BUILT = True
 OPTION = "--default"
+FRONT = re.compile(rb"(?:@PJL DEFAULT [A-Z]+=[A-Z0-9]+\n)+@PJL RESET\n")
 
 
 class Refused(Exception):
@@ -30,3 +33,9 @@ def front(words):
     """The bytes in front of a stream that is printed with these defaults; none where there are none."""
     lines = [b"@PJL DEFAULT %s=%s\n" % pair_of(word) for word in words]
     return b"".join(lines) + b"@PJL RESET\n" if lines else b""
+
+
+def front_of(stream):
+    """What stands in front of a stream for defaults, where it is kept with it; none where it begins otherwise."""
+    found = FRONT.match(stream)
+    return found[0] if found else b""

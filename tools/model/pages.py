@@ -5,8 +5,10 @@ line: a map from line to a whole number whose bit a is the dot in column a. Ever
 orientation only, since a change of orientation closes a marked page first.
 """
 
+import hashlib
 from typing import NamedTuple, Optional
 
+from . import pbm
 from .values import FACTORY_RESOLUTION, dot_positions
 
 PORTRAIT, LANDSCAPE, REVERSE_PORTRAIT, REVERSE_LANDSCAPE = 0, 1, 2, 3
@@ -150,3 +152,10 @@ def listing(sheets, replies):
             text += "sheet %d %s %dx%d black %d\n" % (
                 number, name, side.width(), side.height(), side.count_black())
     return text.encode() + replies
+
+
+def listing_with_sums(sheets, replies):
+    """The same, with the SHA-256 of the P4 file of each side behind its line."""
+    sums = [hashlib.sha256(pbm.bytes_of_side(side)).hexdigest() for sheet in sheets for _, side in sheet.sides()]
+    lines = listing(sheets, b"").decode().splitlines()
+    return "".join(f"{line} sha256 {digest}\n" for line, digest in zip(lines, sums)).encode() + replies

@@ -100,14 +100,15 @@ class Program:
         self.made[name] = content
 
     def print(self, words):
-        names = [word for word in words if word != "--list"]
+        names = [word for word in words if word not in ("--list", "--sums")]
         lists = len(names) < len(words)
-        if any(name.startswith("--") for name in names) or not (1 if lists else 2) <= len(names) <= 2 or len(words) - len(names) > 1:
+        if any(name.startswith("--") for name in names) or not (1 if lists else 2) <= len(names) <= 2 or len(set(words)) < len(words):
             raise NoAnswer()
         self.opens(names[0])
         if lists:
             outcome = runs.run_stream(self.read(names[0]))
-            self.out += pages.listing(outcome.sheets, outcome.replies)
+            listing = pages.listing_with_sums if "--sums" in words else pages.listing
+            self.out += listing(outcome.sheets, outcome.replies)
             return
         if names[1].count(NUMBER) != 1:
             raise Fault(str(BAD_TEMPLATE))

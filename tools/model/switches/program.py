@@ -31,6 +31,9 @@ SWITCHES = [
     switch("listing-counts-white", "A listing tells how many dots are black.", "pages", "                number, name, side.width(), side.height(), side.count_black())\n    return text.encode()", "                number, name, side.width(), side.height(), side.width() * side.height() - side.count_black())\n    return text.encode()"),
     switch("listing-of-the-frame", "A listing tells the size of the medium.", "pages", "                number, name, side.width(), side.height(), side.count_black())\n    return text.encode()", "                number, name, *frame(side.size, side.orientation), side.count_black())\n    return text.encode()"),
     switch("listing-behind-replies", "A listing stands before the replies.", "pages", "    return text.encode() + replies\n", "    return replies + text.encode()\n"),
+    switch("sums-are-not-listed", "With --sums each line ends with a digest.", "program", 'if "--sums" in words else', "if False else"),
+    switch("sums-without-headers", "A digest is that of the whole file of a side.", "pages", "hashlib.sha256(pbm.bytes_of_side(side))", "hashlib.sha256(pbm.bytes_of_side(side)[3:])"),
+    switch("sums-of-fronts", "A digest is that of its own side.", "pages", "for sheet in sheets for _, side in sheet.sides()]", "for sheet in sheets for side in [sheet.front] * 2]"),
     switch("sides-padded-with-ones", "The rows of a file are padded with zeros.", "pbm", "    blank = bytes(row_bytes)\n", "    blank = bytes(row_bytes - 1) + (b\"\\x3f\" if width % 8 else b\"\\0\")\n"),
     # asm, disasm, write
     switch("asm-makes-its-file-first", "A text is assembled before its file is made.", "program", "        self.make(target, self.assembled(self.read(source)), TEXT_FAULT)\n", "        text = self.read(source)\n        self.make(target, b\"\", TEXT_FAULT)\n        self.make(target, self.assembled(text), TEXT_FAULT)\n"),
