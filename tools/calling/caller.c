@@ -41,15 +41,25 @@ static size_t left;
 static uint64_t refused;
 static long held;   /* blocks that the call has not given back */
 
+/* Whether a call that is counted has no room left for so many bytes; else it has so many fewer. */
+static int is_refused(size_t size)
+{
+    if (!is_counted) {
+        return 0;
+    }
+    if (size > left) {
+        refused++;
+        return 1;
+    }
+    left -= size;
+    return 0;
+}
+
 void *__wrap_malloc(size_t size)
 {
     void *block;
-    if (is_counted) {
-        if (size > left) {
-            refused++;
-            return NULL;
-        }
-        left -= size;
+    if (is_refused(size)) {
+        return NULL;
     }
     block = __real_malloc(size);
     held += is_counted && block != NULL;
@@ -59,12 +69,8 @@ void *__wrap_malloc(size_t size)
 void *__wrap_realloc(void *old, size_t size)
 {
     void *block;
-    if (is_counted) {
-        if (size > left) {
-            refused++;
-            return NULL;
-        }
-        left -= size;
+    if (is_refused(size)) {
+        return NULL;
     }
     block = __real_realloc(old, size);
     held += is_counted && old == NULL && block != NULL;
