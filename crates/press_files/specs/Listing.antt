@@ -29,12 +29,15 @@ abbrev pub line_end : Option (List ℕ) → List ℕ
 line_end None = 10 ∷ []
 line_end (Some digest) = codes " sha256 " ++ (encode_lower digest ++ 10 ∷ [])
 
--- The line of a side: the number of its sheet, which side it is, width and height in dots, how many dots are black, and its digest, where
--- sums are listed.
-unfoldable pub measured_line : ℕ → List ℕ → Measures → List ℕ
-measured_line number side measures =
+-- a side as its line has it: the number of its sheet, which side it is, width and height in dots, and how many dots are black
+unfoldable pub measures_text : ℕ → List ℕ → Measures → List ℕ
+measures_text number side measures =
     codes "sheet " ++ (decimal number ++ (codes " " ++ (side ++ (codes " " ++ (decimal measures.width ++ (codes "x" ++ (decimal measures.height
-    ++ (codes " black " ++ (decimal measures.black ++ line_end measures.digest)))))))))
+    ++ (codes " black " ++ decimal measures.black))))))))
+
+-- The line of a side: that, and its digest, where sums are listed.
+unfoldable pub measured_line : ℕ → List ℕ → Measures → List ℕ
+measured_line number side measures = measures_text number side measures ++ line_end measures.digest
 
 abbrev pub side_line : (sums : Bool) → ℕ → List ℕ → Page → List ℕ
 side_line sums number side page = measured_line number side (measures_by sums page)

@@ -4,7 +4,7 @@ ghost use Rattle.press_files.specs.Change.{change};
 ghost use Rattle.press_devices.specs.Reading.{ReadFails};
 ghost use Rattle.press_devices.specs.Writing.{Writes};
 ghost use Rattle.press_files.specs.Causes.{failures};
-ghost use Rattle.press_files.specs.Listing.{measured_line, sheet_lines, Lists, ListsBy, ListsSums, ListsPrinted, PrintsListing, PrintsListingBy, PrintsSums};
+ghost use Rattle.press_files.specs.Listing.{line_end, measured_line, measures_text, sheet_lines, Lists, ListsBy, ListsSums, ListsPrinted, PrintsListing, PrintsListingBy, PrintsSums};
 ghost use Rattle.press_files.specs.EntryListing.{entry_mark, entry_measured_line, entry_sheet_lines, entry_lines, entry_listing};
 ghost use Rattle.press_files.specs.EntrySheets.{kept, entry_deliveries_of};
 
@@ -177,24 +177,22 @@ fn list_side<W: WriteDevice>(
         (measured_line number side.now measures.now) }
     ensures cause { OnErr result (W.failed out.new ≡ true) }
 {
-    let Some(digest) = measures.digest else {
-        return write_pieces(
-            out,
-            &[
-                b"sheet ",
-                Buffer::new().format(number).as_bytes(),
-                b" ",
-                side.as_bytes(),
-                b" ",
-                Buffer::new().format(measures.width).as_bytes(),
-                b"x",
-                Buffer::new().format(measures.height).as_bytes(),
-                b" black ",
-                Buffer::new().format(measures.black).as_bytes(),
-                b"\n",
-            ],
-        );
-    };
+    list_measures(out, number, side, measures)?;
+    end_line(out, measures.digest)
+}
+
+/// Writes the line of one side up to its digest.
+#[tactic(auto, unfolding(crate::specs::Listing::measures_text))]
+fn list_measures<W: WriteDevice>(
+    out: &mut W,
+    number: usize,
+    side: &str,
+    measures: &Measures,
+) -> io::Result<()>
+    ensures written { Writes result (W.contents out.old) (W.contents out.new)
+        (measures_text number side.now measures.now) }
+    ensures cause { OnErr result (W.failed out.new ≡ true) }
+{
     write_pieces(
         out,
         &[
@@ -208,11 +206,19 @@ fn list_side<W: WriteDevice>(
             Buffer::new().format(measures.height).as_bytes(),
             b" black ",
             Buffer::new().format(measures.black).as_bytes(),
-            b" sha256 ",
-            digits_of(digest).as_slice(),
-            b"\n",
         ],
     )
+}
+
+/// Ends the line of a side, with its digest where there is one.
+fn end_line<W: WriteDevice>(out: &mut W, digest: Option<[u8; 32]>) -> io::Result<()>
+    ensures written { Writes result (W.contents out.old) (W.contents out.new) (line_end digest) }
+    ensures cause { OnErr result (W.failed out.new ≡ true) }
+{
+    match digest {
+        Some(digest) => write_pieces(out, &[b" sha256 ", digits_of(digest).as_slice(), b"\n"]),
+        None => write_pieces(out, &[b"\n"]),
+    }
 }
 
 /// Lists the sides of the sheets that a press delivered, in the order of delivery: each line as `print --list` has it, behind the
