@@ -3,7 +3,6 @@ use Rattle.std.specs.Prelude.{◌≡◌, ◌≢◌, ◌⊎◌, ◌≤◌, ◌<�
 use Rattle.std.specs.List.{All}
 use Rattle.std.specs.Io.KnownBytes.{Consumes, IsAtEnd}
 use Rattle.circular_buffer.specs.Buffer.{Buffer, keep_last}
-use Rattle.press_devices.specs.Faults.{read_fault}
 use Rattle.press_cmd.specs.declared.variant.Kind.{Kind}
 use Rattle.press_engine.specs.declared.machine.Last.{Last}
 use Rattle.press_engine.specs.declared.machine.Last.TheVariants as lasts
@@ -13,8 +12,6 @@ use Rattle.press_engine.specs.Trace.{last_machine}
 use Rattle.press_stream.specs.Answers.{WantsMemory}
 use Rattle.press_stream.specs.Left.{LeftOf}
 use Rattle.press_stream.specs.State.{JobState, IsOver, opened, with_piece, input_ended}
-use Rattle.press_debug.specs.declared.fault.OpenError.{OpenError}
-use Rattle.press_debug.specs.declared.fault.OpenError.TheVariants as opening
 use Rattle.press_debug.specs.declared.stepper.Taken.{Taken}
 use Rattle.press_debug.specs.declared.stepper.Taken.TheVariants as answers
 
@@ -33,11 +30,6 @@ pub record IsReadAtStart (had left : Option (List ℕ)) (now : DebuggerState) : 
   pub read : Consumes had left bytes
   pub at_end : IsAtEnd left
   pub start : now ≡ at_start bytes
-
--- the number of a stream that is not opened; none where memory ran out
-abbrev pub opening_number : OpenError → Option ℕ
-opening_number opening.ReadFault = Some read_fault
-opening_number opening.NoMemory = None
 
 -- how many of the last kinds are kept
 abbrev pub most_recent : ℕ

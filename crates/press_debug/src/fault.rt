@@ -1,9 +1,8 @@
 //! Why the table of breakpoints refuses something, the numbers of these refusals (this profile), and why a stream is not opened.
 ghost use Rattle.std.specs.Prelude.{◌≡◌};
 ghost use Rattle.press_debug.specs.Breaks.{refusal_number};
-ghost use Rattle.press_debug.specs.Steps.{opening_number};
 
-use press_devices::{READ_FAULT, ReadFailed};
+use press_devices::ReadFailed;
 use press_units::ToldFault;
 use std::alloc::AllocError;
 use std::error::Error;
@@ -49,38 +48,13 @@ impl fmt::Display for BreakError {
 
 impl Error for BreakError {}
 
-/// Why the stream that a reader has was not opened.
+/// Why the stream that a reader has was not opened. The callers tell it as what their own inputs answer: 304, or that memory ran out.
 #[derive(Clone, Copy, Debug, PartialEq, Eq)]
 pub enum OpenError {
     /// A read failed, or there were too many.
     ReadFault,
     NoMemory,
 }
-
-impl OpenError {
-    /// Its number: 304, unless memory ran out.
-    pub fn number(self) -> Option<u16>
-        ensures { result ≡ opening_number self }
-    {
-        match self {
-            OpenError::ReadFault => Some(READ_FAULT),
-            OpenError::NoMemory => None,
-        }
-    }
-}
-
-impl fmt::Display for OpenError {
-    ghost use Rattle.std.specs.Prelude.{Some};
-    ghost use Rattle.press_units.specs.Faults.{fault_text};
-
-    ghost output = { λ error. Some (fault_text (opening_number error)) };
-
-    fn fmt<W: fmt::Write>(&self, f: &mut fmt::Formatter<W>) -> fmt::Result {
-        write!(f, "{}", ToldFault(self.number()))
-    }
-}
-
-impl Error for OpenError {}
 
 impl From<ReadFailed> for OpenError {
     ghost use Rattle.std.specs.Prelude.{◌≡◌};

@@ -2,12 +2,12 @@ use Rattle.std.proofs.Common.{◌+◌, [], ◌∷◌, map, take, drop, subst}
 use Rattle.std.proofs.lemmas.List.{take_all}
 use Rattle.press_units.proofs.ExitLemmas.{exit-is}
 use Rattle.press_theorem.specs.Events.{HappenAll, event_of, handing}
-use Rattle.press_theorem.proofs.EventLemmas.{HappenAll-none, HappenAll-then, HappenUpTo-behind, has_fault_room-then, events-next, events-rest, from-new, up-to-from-new}
+use Rattle.press_theorem.proofs.EventLemmas.{HappenAll-none, HappenAll-then, HappenSome-behind, has_fault_room-then, events-next, events-rest, from-new, places-from-new, places-from-some, some-from-new}
 use Rattle.press_theorem.proofs.events.carry_out_events.Goals as goal
 
 pub loop-event-init : goal.loop-event-init
 loop-event-init g c = record {
-  happened = HappenAll-none c.args.press.now _ c.args.responses.now.items;
+  happened = HappenAll-none c.args.press.now _ c.args.responses.now.items c.args.turns.now.items;
   has_fault_room = c.requires;
 }
 
@@ -22,7 +22,7 @@ loop-event-preserved g c =
     record {
       happened =
           HappenAll-then c.args.press.now c.loop-event.press c.carry_out.new.press (map event_of (take i events)) (event_of event ∷ [])
-          (map event_of (take (i + 1) events)) _ _ _ _ c.loop-event.responses.items _
+          (map event_of (take (i + 1) events)) _ _ _ _ c.loop-event.responses.items _ _ c.loop-event.turns.items _
           (events-next event_of events i event c.loop-event-test.true c.event-item.is) so_far.happened more;
       has_fault_room = has_fault_room-then (told c.loop-event.sheets) (told c.carry_out.new.sheets) more.no_fault so_far.has_fault_room;
     }
@@ -34,7 +34,8 @@ returns-clause-all g c =
     let i = c.loop-event.event-index in
     subst (λ (some : _).
     HappenAll c.args.press.now (map event_of some) c.loop-event.press
-    (handing (told c.args.sheets.now) (told c.loop-event.sheets) c.args.responses.now.items c.loop-event.responses.items))
+    (handing (told c.args.sheets.now) (told c.loop-event.sheets) c.args.responses.now.items c.loop-event.responses.items
+    c.args.turns.now.items c.loop-event.turns.items))
     (take_all i events c.loop-event-test.false) c.loop-event.invariant.happened
 
 pub returns-clause-from_new : goal.returns-clause-from_new
@@ -42,12 +43,21 @@ returns-clause-from_new g c = λ engines are new.
     let told = g.S.SheetSink.told in
     let events = c.args.events.now in
     let i = c.loop-event.event-index in
-    from-new c.new_presses_come_so.ensures c.args.press.now engines (map event_of events) c.loop-event.press
-    (told c.args.sheets.now) (told c.loop-event.sheets) c.args.responses.now.items c.loop-event.responses.items are new
+    from-new c.new_presses_come_so.ensures c.args.press.now c.loop-event.press engines (map event_of events)
+    (told c.args.sheets.now) (told c.loop-event.sheets) c.args.responses.now.items c.loop-event.responses.items
+    c.args.turns.now.items c.loop-event.turns.items are new
     (subst (λ (some : _).
     HappenAll c.args.press.now (map event_of some) c.loop-event.press
-    (handing (told c.args.sheets.now) (told c.loop-event.sheets) c.args.responses.now.items c.loop-event.responses.items))
+    (handing (told c.args.sheets.now) (told c.loop-event.sheets) c.args.responses.now.items c.loop-event.responses.items
+    c.args.turns.now.items c.loop-event.turns.items))
     (take_all i events c.loop-event-test.false) c.loop-event.invariant.happened)
+
+pub returns-clause-places : goal.returns-clause-places
+returns-clause-places g c = λ engines are new.
+    let told = g.S.SheetSink.told in
+    places-from-new c.new_presses_come_so.ensures c.args.press.now c.loop-event.press engines (map event_of (take c.loop-event.event-index c.args.events.now))
+    (told c.args.sheets.now) (told c.loop-event.sheets) c.args.responses.now.items c.loop-event.responses.items
+    c.args.turns.now.items c.loop-event.turns.items are new c.loop-event.invariant.happened
 
 pub returns-in_err-carry_out-clause-err : goal.returns-in_err-carry_out-clause-err
 returns-in_err-carry_out-clause-err g c =
@@ -56,10 +66,10 @@ returns-in_err-carry_out-clause-err g c =
     let i = c.loop-event.event-index in
     let event = c.event-item.result in
     rw (exit-is c.from_residual.ensures.1)
-    (HappenUpTo-behind c.in_err-carry_out.field-0.0 c.args.press.now c.loop-event.press c.carry_out.new.press
+    (HappenSome-behind c.in_err-carry_out.field-0.0 c.args.press.now c.loop-event.press c.carry_out.new.press
     (map event_of (take i events)) (event_of event ∷ []) (map event_of (drop (i + 1) events)) (map event_of events)
     (told c.args.sheets.now) (told c.loop-event.sheets) (told c.carry_out.new.sheets) c.args.responses.now.items
-    c.loop-event.responses.items c.carry_out.new.responses.items
+    c.loop-event.responses.items c.carry_out.new.responses.items c.args.turns.now.items c.loop-event.turns.items c.carry_out.new.turns.items
     (events-rest event_of events i event c.loop-event-test.true c.event-item.is) c.loop-event.invariant.happened c.in_err-carry_out.ensures.err)
 
 pub returns-in_err-carry_out-clause-err_from_new : goal.returns-in_err-carry_out-clause-err_from_new
@@ -70,11 +80,26 @@ returns-in_err-carry_out-clause-err_from_new g c =
     let event = c.event-item.result in
     rw (exit-is c.from_residual.ensures.1)
     (λ engines are new.
-    up-to-from-new c.new_presses_come_so.ensures c.args.press.now c.in_err-carry_out.field-0.0 engines
-    (map event_of events) c.carry_out.new.press (told c.args.sheets.now) (told c.carry_out.new.sheets) c.args.responses.now.items
-    c.carry_out.new.responses.items are new
-    (HappenUpTo-behind c.in_err-carry_out.field-0.0 c.args.press.now c.loop-event.press c.carry_out.new.press
+    some-from-new c.new_presses_come_so.ensures c.args.press.now c.carry_out.new.press engines
+    (map event_of events) (told c.args.sheets.now) (told c.carry_out.new.sheets) c.args.responses.now.items
+    c.carry_out.new.responses.items c.args.turns.now.items c.carry_out.new.turns.items are new c.in_err-carry_out.field-0.0
+    (HappenSome-behind c.in_err-carry_out.field-0.0 c.args.press.now c.loop-event.press c.carry_out.new.press
     (map event_of (take i events)) (event_of event ∷ []) (map event_of (drop (i + 1) events)) (map event_of events)
     (told c.args.sheets.now) (told c.loop-event.sheets) (told c.carry_out.new.sheets) c.args.responses.now.items
-    c.loop-event.responses.items c.carry_out.new.responses.items
+    c.loop-event.responses.items c.carry_out.new.responses.items c.args.turns.now.items c.loop-event.turns.items c.carry_out.new.turns.items
     (events-rest event_of events i event c.loop-event-test.true c.event-item.is) c.loop-event.invariant.happened c.in_err-carry_out.ensures.err))
+
+pub returns-in_err-carry_out-clause-places : goal.returns-in_err-carry_out-clause-places
+returns-in_err-carry_out-clause-places g c = λ engines are new.
+    let told = g.S.SheetSink.told in
+    let events = c.args.events.now in
+    let i = c.loop-event.event-index in
+    let event = c.event-item.result in
+    places-from-some c.new_presses_come_so.ensures c.args.press.now c.carry_out.new.press engines
+    (map event_of events) (told c.args.sheets.now) (told c.carry_out.new.sheets) c.args.responses.now.items
+    c.carry_out.new.responses.items c.args.turns.now.items c.carry_out.new.turns.items are new c.in_err-carry_out.field-0.0
+    (HappenSome-behind c.in_err-carry_out.field-0.0 c.args.press.now c.loop-event.press c.carry_out.new.press
+    (map event_of (take i events)) (event_of event ∷ []) (map event_of (drop (i + 1) events)) (map event_of events)
+    (told c.args.sheets.now) (told c.loop-event.sheets) (told c.carry_out.new.sheets) c.args.responses.now.items
+    c.loop-event.responses.items c.carry_out.new.responses.items c.args.turns.now.items c.loop-event.turns.items c.carry_out.new.turns.items
+    (events-rest event_of events i event c.loop-event-test.true c.event-item.is) c.loop-event.invariant.happened c.in_err-carry_out.ensures.err)

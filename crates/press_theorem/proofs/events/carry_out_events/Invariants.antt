@@ -7,6 +7,7 @@ use Rattle.press_theorem.proofs.events.carry_out_events.Given as goal
 abbrev pub invariant-loop-event : goal.invariant-loop-event
 invariant-loop-event g l = record {
   happened : HappenAll l.initial.press (map event_of (take l.event-index l.events)) l.press
-      (handing (g.S.SheetSink.told l.initial.sheets) (g.S.SheetSink.told l.sheets) l.initial.responses.items l.responses.items);
+      (handing (g.S.SheetSink.told l.initial.sheets) (g.S.SheetSink.told l.sheets) l.initial.responses.items l.responses.items
+      l.initial.turns.items l.turns.items);
   has_fault_room : (g.S.SheetSink.told l.sheets).faults < most_faults;
 }
