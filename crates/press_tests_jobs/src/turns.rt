@@ -137,13 +137,14 @@ fn a_fault_of_the_sink_aborts_its_entry_alone(rt: HostRuntime) -> Result<(), Fai
 }
 
 /// What a list of events leaves of a press at its beginning: its status, how many sheets entry 1 delivered, the sheets that the
-/// sink took, and the responses.
+/// sink took, the responses, and what the turns did.
 #[derive(Drop)]
 struct Left {
     status: DeviceStatus,
     delivered: Option<u64>,
     sheets: usize,
     responses: Vec<u8>,
+    turns: Vec<Turn>,
 }
 
 impl Left {
@@ -151,12 +152,14 @@ impl Left {
         let mut press = Press::new(alloc);
         let mut sheets = ListSink::new(alloc);
         let mut responses = Vec::new(alloc);
-        carry_out_events(&mut press, events, &mut sheets, &mut responses)?;
+        let mut turns = Vec::new(alloc);
+        carry_out_events(&mut press, events, &mut sheets, &mut responses, &mut turns)?;
         Ok(Left {
             status: press.status().status,
             delivered: press.delivered(1),
             sheets: sheets.deliveries().len(),
             responses,
+            turns,
         })
     }
 }
@@ -174,11 +177,17 @@ fn events_happen_one_after_another(rt: HostRuntime) -> Result<(), Fail> {
         engine: 0,
         most: u64::MAX,
     };
+    let five = PressEvent::Turn { engine: 0, most: 5 };
     let paused = Left::behind(rt.alloc(), &[message, pause, turn])?;
     assert_eq!(rt; (paused.delivered, paused.sheets), (Some(0), 0));
     assert_eq!(rt; paused.status, DeviceStatus::Stopped);
-    let printed = Left::behind(rt.alloc(), &[message, pause, turn, go_on, turn])?;
+    let printed = Left::behind(rt.alloc(), &[message, pause, turn, go_on, five, turn])?;
     assert_eq!(rt; (printed.delivered, printed.sheets), (Some(3), 3));
     assert_eq!(rt; printed.responses.last(), Some(&b'\n'));
+    let turns = [(None, 0), (Some(1), 5), (Some(1), 13)].map(|(entry, steps)| Turn {
+        entry,
+        steps,
+    });
+    assert_eq!(rt; printed.turns.as_slice(), turns.as_slice());
     Ok(())
 }

@@ -38,7 +38,7 @@ turns_in happenings = flat_map (λ happening. turns_of happening.answer) happeni
 abbrev has_answer : Transition → Type 0
 has_answer happening = IsAnswered happening.answer
 
-Leads-join : (world middle last : World) (happenings others : List Transition) → IsExecution world happenings middle → IsExecution middle others last → IsExecution world (happenings ++ others) last
+pub Leads-join : (world middle last : World) (happenings others : List Transition) → IsExecution world happenings middle → IsExecution middle others last → IsExecution world (happenings ++ others) last
 Leads-join world middle last [] others first second = subst (λ (w : World). IsExecution w others last) first second
 Leads-join world middle last (happening ∷ happenings) others first second =
     (first.0, Leads-join happening.next middle last happenings others first.1 second)
