@@ -1,5 +1,5 @@
 -- Lines of a session, some after others.
-use Rattle.std.proofs.Common.{◌≡◌, ◌∙◌, ℕ, List, [], ◌∷◌, ◌++◌, codes, true, false, Option, Some, None, option_map, Ok, refl, sym, ap, subst, inl, inr}
+use Rattle.std.proofs.Common.{◌≡◌, ◌∙◌, ℕ, List, [], ◌∷◌, ◌++◌, codes, true, false, Option, Some, None, refl, sym, ap, subst, inl, inr}
 use Rattle.press_files.specs.Causes.{Failures, InputCause}
 use Rattle.press_files.specs.Change.{change}
 use Rattle.press_files.specs.NamedInputs.{NamedInput}
@@ -10,20 +10,19 @@ use Rattle.std.specs.List.{All}
 use Rattle.std.proofs.lemmas.List.{append_assoc, append-nil}
 use Rattle.std.proofs.lemmas.List.Elements.{All-append, All-cons, All-nil}
 use Rattle.press_sink.specs.declared.sheet.Delivery.{Delivery}
-use Rattle.press_core.specs.declared.turn.Turn.{Turn}
 use Rattle.press_core.specs.declared.engines.BadEngines.{BadEngines}
 use Rattle.press_core.specs.Engines.{are_engines}
-use Rattle.press_core.specs.Events.{TurnOn, Turned, Happens}
 use Rattle.press_history.specs.Runs.{Transition, IsAnswered, IsExecution}
 use Rattle.press_history.specs.Laws.{NewPressesComeSo}
+use Rattle.press_theorem.proofs.EventLemmas.{Leads-join}
 use Rattle.press_core.specs.World.{World, new_world}
 use Rattle.press_jobs.specs.declared.jobs.JobFileError.TheVariants as fault
 use Rattle.press_sessions.specs.declared.sessions.SessionError.{SessionError}
 use Rattle.press_sessions.specs.declared.sessions.SessionError.TheVariants.{Engines, File, Output}
 use Rattle.press_files.specs.EntryListing.{entry_listing}
 use Rattle.press_sessions.specs.EventLines.{EventLine, event_of_line}
-use Rattle.press_sessions.specs.Sessions.{Inputs, answer_text, answer_to, answers_to, happenings_in, handed_in, turn_text}
-use Rattle.press_sessions.specs.Sessions.{AreLinesOf, TakesEvent, TakesAsked, TakesLines, IsUnanswered, IsUnread, Plays}
+use Rattle.press_sessions.specs.Sessions.{Inputs, answer_text, answer_to, answers_to, happenings_in, handed_in}
+use Rattle.press_sessions.specs.Sessions.{AreLinesOf, TakesAsked, TakesLines, IsUnanswered, IsUnread, Plays}
 use Rattle.press_sessions.specs.Sessions.{PlaysToItsEnd, StopsListing, StopsPlaying, Stops, Standing, standing, playing}
 use Rattle.press_sessions.specs.Talking.{Talking, AnswersLines, AnswersAll, AnswersSome, caused, line_by_line}
 use Rattle.press_sessions.proofs.TalkLemmas.{IsSeen, IsSeen-caused, AnswersAll-seen, AnswersSome-seen}
@@ -31,11 +30,6 @@ use Rattle.press_sessions.proofs.TalkLemmas.{IsSeen, IsSeen-caused, AnswersAll-s
 -- the event of this happening has its answer
 abbrev has_answer : Transition → Type 0
 has_answer happening = IsAnswered happening.answer
-
-Leads-join : (world middle last : World) (happenings others : List Transition) → IsExecution world happenings middle → IsExecution middle others last → IsExecution world (happenings ++ others) last
-Leads-join world middle last [] others first second = subst (λ (w : World). IsExecution w others last) first second
-Leads-join world middle last (happening ∷ happenings) others first second =
-    (first.0, Leads-join happening.next middle last happenings others first.1 second)
 
 happenings-join : (lines others : List (Option Transition)) → happenings_in (lines ++ others) ≡ happenings_in lines ++ happenings_in others
 happenings-join [] others = refl
@@ -119,16 +113,6 @@ TakesLines-event inputs line asked world next had has answer is taken =
       happened = All-cons has_answer happening [] taken.2.5 (All-nil has_answer);
       answered = taken.2.4 ∙ sym (append-nil (answer_text its));
     }
-
--- what a sink tells that tells its list
-pub same_deliveries : (has had handed : List Delivery) → Some has ≡ option_map (λ (all : List Delivery). all ++ handed) (Some had) → has ≡ had ++ handed
-same_deliveries has had handed told = cc
-
--- a turn was taken, and this is its line
-pub turn-taken : (world next : World) (engine most : ℕ) (turn : Turn) (had has handed : List Delivery) (line answer : List ℕ)
-    → Happens world (TurnOn engine most) (Turned (Ok turn)) handed next → has ≡ had ++ handed → line ≡ turn_text turn.entry turn.steps
-    → answer ≡ line → TakesEvent (TurnOn engine most) world had next has answer
-turn-taken world next engine most turn had has handed line answer happens all is same = (Turned (Ok turn), handed, happens, all, same ∙ is, tt)
 
 -- ---- the talk of a session
 

@@ -1,11 +1,14 @@
 -- Sessions with a press: what its lines ask, what comes of them, and what is written.
-use Rattle.std.specs.Prelude.{◌≡◌, ◌⊎◌, ℕ, Bool, true, List, [], ◌∷◌, ◌++◌, map, IsTrue, MatchBool, Option, Some, None, Ok, Err, codes, ⊤}
+use Rattle.std.specs.Prelude.{◌≡◌, ◌⊎◌, ℕ, List, [], ◌∷◌, ◌++◌, map, IsTrue, MatchBool, Option, Some, None, Ok, Err, codes, ⊤}
 use Rattle.std.specs.Fmt.{decimal}
 use Rattle.std.specs.List.{All}
 use Rattle.std.specs.Io.KnownBytes.{Appends}
 use Rattle.press_devices.specs.Writing.{AppendsPrefix}
 use Rattle.press_sink.specs.declared.sheet.Delivery.{Delivery}
 use Rattle.press_core.specs.declared.engines.BadEngines.{BadEngines}
+use Rattle.press_core.specs.declared.turn.Turn.{Turn as DoneTurn}
+use Rattle.press_core.specs.declared.turn.TurnError.{TurnError}
+use Rattle.press_core.specs.declared.turn.TurnError.TheVariants as turn_fault
 use Rattle.press_core.specs.Engines.{are_engines}
 use Rattle.press_core.specs.Events.{Event, Message, TurnOn, Operator, Happens, EventAnswer, Response, Turned, Nothing}
 use Rattle.press_history.specs.Runs.{Transition, IsAnswered, IsExecution}
@@ -38,6 +41,12 @@ answer_text (Response (Some bytes)) = bytes ++ 10 ∷ []
 answer_text (Turned (Ok turn)) = turn_text turn.entry turn.steps
 answer_text Nothing = codes "ok" ++ 10 ∷ []
 answer_text answer = []
+
+-- the same, of what an event handed back: its response with a line feed, and what its turn did
+abbrev pub handed_back : (response : List ℕ) → List DoneTurn → List ℕ
+handed_back response (turn ∷ turns) = turn_text turn.entry turn.steps
+handed_back [] [] = codes "ok" ++ 10 ∷ []
+handed_back (byte ∷ bytes) [] = byte ∷ bytes
 
 -- A line is an event with what came of it, or none.
 abbrev pub answer_to : Option Transition → List ℕ
@@ -136,6 +145,16 @@ TurnFails engine most world (Turn error) =
     (handed : List Delivery) × (next : World) × Happens world (TurnOn engine most) (Turned (Err error)) handed next
 TurnFails engine most world NoMemory = ⊤
 TurnFails engine most world why = ⊥
+
+-- what is told where a fault stopped an event
+abbrev pub stopped_by : TurnError → SessionError
+stopped_by turn_fault.NoMemory = NoMemory
+stopped_by error = Turn error
+
+-- Why an event has no answer.
+abbrev pub EventFails : Event → World → SessionError → Type 0
+EventFails (TurnOn engine most) world why = TurnFails engine most world why
+EventFails event world why = why ≡ NoMemory
 
 -- Why what a line asks has no answer.
 abbrev pub HasFault : Inputs → EventLine → World → SessionError → Type 0

@@ -5,7 +5,6 @@ ghost use Rattle.press_files.specs.Causes.{failures};
 ghost use Rattle.press_files.specs.Change.{change};
 ghost use Rattle.std.specs.Io.KnownBytes.{Appends};
 ghost use Rattle.std.specs.String.{string_bytes};
-ghost use Rattle.press_core.specs.Events.{TurnOn, Operator};
 ghost use Rattle.press_files.specs.EntryListing.{entry_listing};
 ghost use Rattle.press_sessions.specs.EventLines.{MessageLine, line_seen};
 ghost use Rattle.press_sessions.specs.Sessions.{
@@ -13,28 +12,30 @@ ghost use Rattle.press_sessions.specs.Sessions.{
   TakesEvent,
   TakesAsked,
   TakesLines,
+  EventFails,
   HasFault,
-  TurnFails,
   IsUnanswered,
   StopsListing,
   Plays,
   Stops,
   delivered_by,
+  handed_back,
   standing,
 };
 ghost use Rattle.press_sessions.specs.Faults.{told_of_session};
 ghost use Rattle.press_files.specs.NamedInputs.{named};
 ghost use Rattle.press_telling.specs.Telling.{Ended};
-ghost use Rattle.press_sessions.specs.declared.sessions.SessionError.TheVariants.{NoMemory};
+ghost use Rattle.press_theorem.specs.Events as happening;
 
 use crate::event_lines::{LineEvent, event_of};
 use crate::talking::{Talk, answer_lines};
-use press_core::{BadEngines, OperatorCommand, Press, Turn, TurnError};
+use press_core::{BadEngines, Press, Turn, TurnError};
 use press_devices::{ReadDevice, WriteDevice, write_flushed};
 use press_files::{EntrySheets, InputError, NamedInputs, list_delivered, open_named, read_all};
 use press_history::laws;
 use press_jobs::{JobFileError, images_named};
 use press_telling::{NO_OUTPUT, Teller, report};
+use press_theorem::{PressEvent, carry_out_events};
 use press_units::ToldFault;
 use press_words::{WHAT, line_of, words_of};
 use std::alloc::{AllocError, Global};
@@ -109,12 +110,15 @@ impl From<JobFileError> for SessionError {
 
 impl From<TurnError> for SessionError {
     ghost use Rattle.std.specs.Prelude.{◌≡◌};
-    ghost use Rattle.press_sessions.specs.declared.sessions.SessionError.TheVariants.{Turn};
+    ghost use Rattle.press_sessions.specs.Sessions.{stopped_by};
 
-    ghost from_gives = { λ fault error. error ≡ Turn fault };
+    ghost from_gives = { λ fault error. error ≡ stopped_by fault };
 
     fn from(fault: TurnError) -> SessionError {
-        SessionError::Turn(fault)
+        match fault {
+            TurnError::NoMemory => SessionError::NoMemory,
+            fault => SessionError::Turn(fault),
+        }
     }
 }
 
@@ -326,8 +330,8 @@ impl Session {
     {
         match event {
             LineEvent::Message(file, images) => self.message(inputs, file, images),
-            LineEvent::Turn { engine, most } => self.turn(engine, most),
-            LineEvent::Operator(command) => self.operate(command),
+            LineEvent::Turn { engine, most } => self.carry_out(PressEvent::Turn { engine, most }),
+            LineEvent::Operator(command) => self.carry_out(PressEvent::Operator(command)),
         }
     }
 
@@ -353,30 +357,35 @@ impl Session {
         let mut input = open_named(inputs, file)?;
         let text = read_all(self.alloc, &mut input)?;
         let images = images_named(self.alloc, inputs, images)?;
-        let response = self.press.message(&text, &images)?;
-        Ok(line_of(self.alloc, &response)?)
+        self.carry_out(PressEvent::Message {
+            text: &text,
+            images: &images,
+        })
     }
 
-    /// Takes a turn of an engine: what it did.
-    fn turn(&mut self, engine: u64, most: u64) -> Result<Vec<u8>, SessionError>
-        ensures ok { IfOk result (λ answer. TakesEvent (TurnOn engine most)
+    /// Lets an event happen to the press: the line of its answer.
+    fn carry_out(&mut self, event: PressEvent<'_>) -> Result<Vec<u8>, SessionError>
+        ensures ok { IfOk result (λ answer. TakesEvent (happening.event_of event.entry)
             self.old.press (delivered_by self.old)
             self.new.press (delivered_by self.new) answer.items) }
-        ensures err { IfErr result (TurnFails engine most self.old.press) }
+        ensures err { IfErr result (EventFails (happening.event_of event.entry) self.old.press) }
     {
-        let turn = self.press.turn_on(engine, most, &mut self.sheets)?;
-        Ok(turn_line(self.alloc, turn)?.into_bytes())
+        let mut response = Vec::new(self.alloc);
+        let mut turns = Vec::new(self.alloc);
+        let (press, sheets) = (&mut self.press, &mut self.sheets);
+        carry_out_events(press, &[event], sheets, &mut response, &mut turns)?;
+        Ok(answer_of(self.alloc, response, &turns)?)
     }
+}
 
-    /// Carries out a command of the operator: that it was.
-    fn operate(&mut self, command: OperatorCommand) -> Result<Vec<u8>, SessionError>
-        ensures ok { IfOk result (λ answer. TakesEvent (Operator command)
-            self.old.press (delivered_by self.old)
-            self.new.press (delivered_by self.new) answer.items) }
-        ensures err { IfErr result (λ why. why ≡ NoMemory) }
-    {
-        self.press.operator(command);
-        Ok(line_of(self.alloc, b"ok")?)
+/// The line of the answer of an event: of its response, or of the turn that it was, or that it was carried out.
+fn answer_of(alloc: Global, response: Vec<u8>, turns: &[Turn]) -> Result<Vec<u8>, AllocError>
+    ensures { IfOk result (λ line. line.items ≡ handed_back response.items turns.now) }
+{
+    match turns.first() {
+        Some(turn) => Ok(turn_line(alloc, *turn)?.into_bytes()),
+        None if response.is_empty() => line_of(alloc, b"ok"),
+        None => Ok(response),
     }
 }
 
