@@ -2,7 +2,6 @@
 
 import os
 import re
-import shutil
 import stat
 import subprocess
 from pathlib import Path
@@ -18,9 +17,7 @@ from .markup import Wrong, local, named, parsed, unknown, unknown_attribute
 
 MOST_PAGES, MOST_DOTS = 999, 16384
 BESIDE = 2          # dots at 300 that a page of a PDF may be larger or smaller than the medium, for sizes are no whole dots
-SECONDS, MEMORY, LARGEST = 300, 4 << 20, 1 << 17     # of Ghostscript: KiB, and blocks of 512 bytes of a file
 RANGE = re.compile(r"(-?[0-9]{1,9})(?:\s*~\s*(-?[0-9]{1,9}))?(?:\s+|$)")
-GHOSTSCRIPT = 'ulimit -v "$1" && ulimit -f "$2" && shift 2 && exec gs "$@"'
 
 
 class Package(NamedTuple):
@@ -205,32 +202,14 @@ def taken(data):
 
 def drawn(data, size, folder):
     """The pages of a PDF by Ghostscript, at the resolution of the ticket: each as large as the medium, and with nothing beside the logical page."""
-    if shutil.which("gs") is None:
-        raise ValueError("a PDF is drawn by Ghostscript, and there is no gs: apt-get install ghostscript")
-    place = folder / "drawn"
-    place.mkdir()
-    (place / "in.pdf").write_bytes(data)
-    words = ["-q", "-dNOPAUSE", "-dBATCH", "-dSAFER", "-sDEVICE=pbmraw", f"-r{size.resolution}", f"-dLastPage={MOST_PAGES + 1}", "-sOutputFile=%d.pbm", "-f", "in.pdf"]
-    ran = subprocess.run(["sh", "-c", GHOSTSCRIPT, "gs", str(MEMORY), str(LARGEST), *words], cwd=place, stdin=subprocess.DEVNULL, capture_output=True,
-                         timeout=SECONDS, check=False)
-    names = sorted(place.glob("*.pbm"), key=lambda name: int(name.stem))
-    if ran.returncode or not names:
-        raise ValueError(f"Ghostscript does not draw it: {(ran.stderr + ran.stdout).decode(errors='replace').strip()[:200]}")
-    images = [fitted(name, size, number) for number, name in enumerate(names)]
-    shutil.rmtree(place)
+    name, images, near = folder / "in.pdf", [], BESIDE * size.resolution // pages.FACTORY_RESOLUTION
+    name.write_bytes(data)
+    for number, page in enumerate(pictures.drawn(name, pdf.Page(size.width, range(size.height), size.resolution), f"-dLastPage={MOST_PAGES + 1}")):
+        if max(abs(page.width - size.width), abs(len(page.rows) - size.height)) > near:
+            raise Wrong(cip4.INCAPABLE, f"page {number} of the PDF has {page.width} x {len(page.rows)} dots, and {size.name} {size.width} x {size.height}")
+        image, beside = anew.cut(page, size)
+        if beside:
+            raise Wrong(cip4.INCAPABLE, f"page {number} of the PDF has {beside:,} dots beside the logical page, where no image of a ticket lies")
+        images.append(image)
+    name.unlink()
     return images
-
-
-def fitted(name, size, number):
-    """The logical page of a page that was drawn."""
-    data = name.read_bytes()
-    header = png.HEADER.match(data)
-    width, height = int(header[1]), int(header[2])
-    if max(abs(width - size.width), abs(height - size.height)) > BESIDE * size.resolution // pages.FACTORY_RESOLUTION:
-        raise Wrong(cip4.INCAPABLE, f"page {number} of the PDF has {width} x {height} dots, and {size.name} {size.width} x {size.height}")
-    stride = (width + 7) // 8
-    rows = [data[start:start + stride] for start in range(header.end(), header.end() + stride * height, stride)]
-    image, beside = anew.cut(pdf.Page(width, rows, size.resolution), size)
-    if beside:
-        raise Wrong(cip4.INCAPABLE, f"page {number} of the PDF has {beside:,} dots beside the logical page, where no image of a ticket lies")
-    return image

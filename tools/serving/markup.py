@@ -1,7 +1,6 @@
 """XML as it comes over a network, by expat: a document type is refused, so no entity is declared, and none is read from outside."""
 
 import xml.etree.ElementTree as trees
-from xml.parsers import expat
 
 from . import cip4
 
@@ -24,40 +23,30 @@ def parsed(data, root):
     if len(data) > MOST:
         raise Wrong(cip4.UNREADABLE, f"it has more than {MOST:,} bytes of XML")
     try:
-        found = tree_of(data)
-    except (ValueError, LookupError, expat.ExpatError) as fault:
+        found = trees.fromstring(data, trees.XMLParser(target=Builder()))
+    except (ValueError, LookupError, trees.ParseError) as fault:
         raise Wrong(cip4.UNREADABLE, f"it is no XML that is read here: {fault}") from None
     if found.tag != named(root):
         raise Wrong(cip4.INVALID, f"its root is {found.tag}, and not {named(root)}")
     return found
 
 
-def tree_of(data):
-    builder, parser, depth = trees.TreeBuilder(), expat.ParserCreate(namespace_separator="}"), 0
+class Builder(trees.TreeBuilder):
+    """A tree of few levels, without a document type."""
+    depth = 0
 
-    def start(name, attributes):
-        nonlocal depth
-        depth += 1
-        if depth > cip4.DEEPEST:
-            raise ValueError(f"it is deeper than {cip4.DEEPEST} elements")
-        builder.start(clark(name), {clark(key): value for key, value in attributes.items()})
-
-    def end(name):
-        nonlocal depth
-        depth -= 1
-        builder.end(clark(name))
-
-    def refuse(*_):
+    def doctype(self, *_):
         raise ValueError("it has a DOCTYPE")
 
-    parser.StartElementHandler, parser.EndElementHandler = start, end
-    parser.CharacterDataHandler, parser.StartDoctypeDeclHandler = builder.data, refuse
-    parser.Parse(data, True)
-    return builder.close()
+    def start(self, tag, attributes):
+        self.depth += 1
+        if self.depth > cip4.DEEPEST:
+            raise ValueError(f"it is deeper than {cip4.DEEPEST} elements")
+        return super().start(tag, attributes)
 
-
-def clark(name):
-    return "{" + name if "}" in name else name
+    def end(self, tag):
+        self.depth -= 1
+        return super().end(tag)
 
 
 def named(name):

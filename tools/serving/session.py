@@ -9,7 +9,6 @@ import shutil
 import subprocess
 import threading
 from pathlib import Path
-from typing import NamedTuple
 
 from seen import job_folder, pages_of, program
 
@@ -23,12 +22,6 @@ NAME = re.compile("Q([1-9][0-9]{0,17})")
 
 class Ended(Exception):
     """The press, or the disk, does not go on: nothing can be answered any more."""
-
-
-class Job(NamedTuple):
-    ticket: dict
-    images: list     # below the folder
-    sender: str
 
 
 def whole_lines(data):
@@ -92,7 +85,7 @@ class Session:
         """What the tool itself knows of the events."""
         self.first = event.get("first", self.first)
         if event.get("message", {}).get("Type") == "SubmitQueueEntry":
-            self.jobs[event["entry"]] = Job(event["message"]["Ticket"], event["images"], event["from"])
+            self.jobs[event["entry"]] = event
             self.sizes[Path(event["images"][0]).parent.name] = sum((self.folder / name).stat().st_size for name in event["images"])
         if event.get("completed"):
             self.unprinted.append(event["entry"])
@@ -199,7 +192,7 @@ class Session:
             answer["QueueEntryID"] = self.told(entry)
         for each in [*answer.get("Queue", {}).get("Entries", ()), answer.get("Device", {})]:
             if entry := each.get("QueueEntryID"):
-                each.update(QueueEntryID=self.told(entry), JobID=self.jobs[entry].ticket["JobID"])
+                each.update(QueueEntryID=self.told(entry), JobID=self.jobs[entry]["message"]["Ticket"]["JobID"])
         return answer
 
     def turn(self):
@@ -215,24 +208,23 @@ class Session:
         while self.unprinted:
             entry = self.unprinted[0]
             name, job = self.told(entry), self.jobs[entry]
-            count = self.print_job(name, job)
+            title, count = job["message"]["Ticket"]["JobID"], self.print_job(name, job)
             with self.lock:
                 self.keep({"printed": entry})
                 self.begin_anew()
-            yield f"job-{name}: {count} {'side' if count == 1 else 'sides'} of {job.ticket['JobID']} from {job.sender}"
+            yield f"job-{name}: {count} {'side' if count == 1 else 'sides'} of {title} from {job['from']}"
 
     def print_job(self, name, job):
         """How many sides the folder of a job has, which takes its name when it is whole: what `press write` and `press print` make of its ticket and images."""
         part = self.folder / job_folder.name_of_part(name, os.getpid())
         part.mkdir()
         try:
-            (part / "ticket.json").write_text(json.dumps(job.ticket))
-            images = [self.folder / image for image in job.images]
-            pages_of.asked(["write", "ticket.json", "stream.prn", *images], b"", program.PROGRAM, part)
+            (part / "ticket.json").write_text(json.dumps(job["message"]["Ticket"]))
+            pages_of.asked(["write", "ticket.json", "stream.prn", *(self.folder / image for image in job["images"])], b"", program.PROGRAM, part)
             stream = (part / "stream.prn").read_bytes()
             printed = pages_of.print_into(part, stream)
             job_folder.write_pages(part, printed, stream)
-            job_folder.write_about(part, [("job", name), ("title", job.ticket["JobID"]), ("from", job.sender), ("printed by", printed.who)])
+            job_folder.write_about(part, [("job", name), ("title", job["message"]["Ticket"]["JobID"]), ("from", job["from"]), ("printed by", printed.who)])
             job_folder.open_to(self.folder, part)
             for path in part.iterdir():
                 sync(path)

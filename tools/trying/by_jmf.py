@@ -1,18 +1,20 @@
 """Complaints about tools/jmf: what controllers send, over and over at one queue, jobs in JDF with each dot that they print, requests of HTTP, journals."""
 
+import importlib.util
 import json
 import os
 import re
 import shutil
 import socket
 import subprocess
+import sys
 import tempfile
 import time
 import xml.etree.ElementTree as trees
 from pathlib import Path
 
 from model import pages
-from seen import pages_of, pdf, program
+from seen import pages_of, pdf, png, program
 from serving import cip4, jmf, session
 
 from . import controller, jmf_rows, kills
@@ -57,11 +59,11 @@ def said(_):
 
 
 def codes(_):
-    """Each code of the press has one of CIP4, by each status that an entry may have."""
-    wanted = {(own, mapped) for own, mapped, _ in cip4.CODES}
-    found = {(own, jmf.mapped_code(own, kind, status)) for own, _ in wanted for kind in cip4.GIVES for status in ("Waiting", "Held", "Running", "Suspended", "Completed", "Aborted")}
-    if found != wanted or jmf.mapped_code(22, "RemoveQueueEntry", "Suspended") != 106:
-        yield f"jmf: the codes are {sorted(found)}"
+    """Each code of the press has one of CIP4, by each status that an entry may have; and the tables of the document."""
+    for kind, wanted in jmf_rows.OF_22.items():
+        found = [str(jmf.mapped_code(22, kind, status)) for status in ("Waiting", "Held", "Running", "Suspended", "Completed", "Aborted")]
+        if any(one not in (other, "-") for one, other in zip(wanted.split(), found, strict=True)) or any((22, int(code)) not in jmf.WORDS for code in found):
+            yield f"jmf, 22 of {kind}: the codes are {found}"
     text = DOCUMENT.read_text()
     for lines in cip4.tables():
         if "\n".join(lines) + "\n" not in text:
@@ -122,6 +124,17 @@ def printed(_):
                 yield f"jmf, {what}: it prints other sides than press write and press print, and tells {line!r}"
 
 
+def without_programs(_):
+    """A PDF where there is no Ghostscript, and a PNG where nothing reads it: each is refused with a word."""
+    with tempfile.TemporaryDirectory() as name:
+        (Path(name) / "python3").symlink_to(sys.executable)
+        with Running("jmf", BOUNDS, env={**os.environ, "PATH": name}) as running:
+            for data, said in ((b"%PDF-1.4", "there is no gs: apt-get install ghostscript"), (png.png_of_dots(8, [b"x"], 300), "neither is here: apt-get install python3-pil")):
+                answer = controller.post(running.port, *controller.package(data, "x"))
+                if said not in controller.comments(answer) and not (b"PNG" in data and importlib.util.find_spec("PIL")):
+                    yield f"jmf, without programs: it answers {controller.comments(answer)}"
+
+
 def by_hand(folder, images):
     """The sides of these images by a ticket."""
     names = []
@@ -180,9 +193,16 @@ def journals(_):
             after = ask(running, STATUS)
             if controller.entries(after) != controller.entries(before) or (folder / "journal").read_bytes() != whole or (folder / "pages/job-left").exists():
                 yield f"jmf: behind a kill there is {controller.entries(after)}, and there was {controller.entries(before)}"
+                return
             ask(running, controller.document('<Command ID="h" Type="ResumeQueue"/>'))
-            if (line := running.line()) != "job-Q3: 6 sides of flyer from " + line[30:]:
+            if not (line := running.line()).startswith("job-Q3: 6 sides of flyer from "):
                 yield f"jmf: behind a kill {line!r} is told"
+            running.kill()
+        done = (folder / "journal").read_bytes()
+        (folder / "journal").write_bytes(done[:done.rindex(b"{")])
+        with Running("jmf", BOUNDS, folder):
+            if (folder / "journal").read_bytes() != done or len(list(folder.glob("job-*"))) != 1:
+                yield "jmf: a job that was printed as it was killed is printed again"
         (folder / "journal").write_bytes(whole.replace(b'"Priority": 7', b'"Priority": 777'))
         ran = subprocess.run([program.ROOT / "tools/jmf", "--port", "0", folder], capture_output=True, timeout=SECONDS, check=False)
         if ran.returncode != 1 or b"of the journal is answered otherwise than before" not in ran.stderr:
@@ -196,12 +216,12 @@ def killed(_, count=3, seed=1):
 
 def by_curl(_):
     """The lines of docs/JMF.md, by curl: what stands behind each is in its answer."""
+    lines = CURL.findall(DOCUMENT.read_text())
+    if len(lines) < 4:
+        yield f"docs/JMF.md has {len(lines)} lines of curl"
     if shutil.which("curl") is None:
         print("curl is not installed: the lines of docs/JMF.md are not tried")
         return
-    lines = CURL.findall(DOCUMENT.read_text())
-    if len(lines) < 3:
-        yield f"docs/JMF.md has {len(lines)} lines of curl"
     with Running("jmf", BOUNDS) as running:
         for line, wanted in lines:
             ran = subprocess.run(["bash", "-c", line.replace(":8010", f":{running.port}")], cwd=program.ROOT, capture_output=True, timeout=SECONDS, check=False)
@@ -209,5 +229,5 @@ def by_curl(_):
                 yield f"docs/JMF.md: `{line}` prints {ran.stdout.decode()!r}"
 
 
-PARTS = {"jmf_said": said, "jmf_codes": codes, "jmf_jobs": jobs, "jmf_printed": printed, "jmf_requests": requests, "jmf_journals": journals, "jmf_killed": killed, "jmf_curl": by_curl}
+PARTS = {"jmf_said": said, "jmf_codes": codes, "jmf_jobs": jobs, "jmf_printed": printed, "jmf_without": without_programs, "jmf_requests": requests, "jmf_journals": journals, "jmf_killed": killed, "jmf_curl": by_curl}
 COUNTS = {"messages": len(jmf_rows.SAID), "jobs": len(jmf_rows.JOBS), "requests": len(jmf_rows.REQUESTS)}

@@ -158,6 +158,16 @@ JOBS = [
     Job("../images/back.pbm", "../images/beside.pdf", 101, "page 0 of the PDF has 12 dots beside the logical page"),
 ]
 
+# What 22 of the press becomes, for an entry that is Waiting, Held, Running, Suspended, Completed, Aborted; - where the press does not answer 22.
+OF_22 = {
+    "HoldQueueEntry": "- 113 106 106 114 114",
+    "ResumeQueueEntry": "113 - 106 - 114 114",
+    "SuspendQueueEntry": "115 115 - 113 114 114",
+    "AbortQueueEntry": "- - - - 114 113",
+    "RemoveQueueEntry": "- - 106 106 - -",
+    "SetQueueEntryPriority": "- - 106 106 114 114",
+}
+
 # Requests as they are sent, the least of the answer's first line, or nothing where the connection ends so.
 REQUESTS = [
     ("GET / HTTP/1.1\r\n\r\n", "HTTP/1.1 501 "),

@@ -20,15 +20,12 @@ def image_of(number):
     return b"P4\n%d 1\n" % WIDE + (number | 1 << WIDE - 1).to_bytes(WIDE // 8, "big")
 
 
-def number_of(page):
-    """The number that a page spells, which has no other dot."""
+def side_of(number):
+    """What `press write` and `press print` make of this image."""
     size = pages.SIZES["Letter"]
-    header, stride = b"P4\n%d %d\n" % (size.width, size.height), (size.width + 7) // 8
-    row = int.from_bytes(page[len(header):len(header) + stride], "big") >> stride * 8 - size.portrait_offset - WIDE
-    whole = int.from_bytes(page[len(header):], "big")
-    if not page.startswith(header) or whole.bit_count() != row.bit_count() or not row >> WIDE - 1:
-        raise ValueError("a page has other dots than those of its job")
-    return row ^ 1 << WIDE - 1
+    row = (number | 1 << WIDE - 1) << 8 * ((size.width + 7) // 8) - size.portrait_offset - WIDE
+    stride = (size.width + 7) // 8
+    return b"P4\n%d %d\n" % (size.width, size.height) + row.to_bytes(stride, "big") + bytes(stride * (size.height - 1))
 
 
 class Submitting(threading.Thread):
@@ -90,15 +87,13 @@ def complaints(folder, count, seed=0):
 
 
 def wrong(client, spool, log):
-    found = {path.name.removeprefix("job-"): number_of((path / "page-1.pbm").read_bytes()) for path in spool.glob("job-*")}
-    if lost := {entry: number for entry, number in client.accepted.items() if found.get(entry) != number}:
+    found = {path.name.removeprefix("job-"): (path / "page-1.pbm").read_bytes() for path in spool.glob("job-*")}
+    if lost := {entry: number for entry, number in client.accepted.items() if found.get(entry) != side_of(number)}:
         yield f"lost, or with other dots: {lost}"
-    if len(set(found.values())) != len(found) or not all(0 < number <= client.sent for number in found.values()):
-        yield f"printed twice, or never sent: {sorted(found.values())}"
+    if len(set(found.values())) != len(found) or not set(found.values()) <= {side_of(number) for number in range(1, client.sent + 1)}:
+        yield f"printed twice, or never sent: {sorted(found)}"
     told = JOB.findall(log.read_bytes())
     if len(set(told)) != len(told) or not {entry.decode() for entry in told} <= set(found):
         yield f"told twice, or without a folder: {sorted(told)}"
-    if (spool / "journal").read_bytes().count(b"\n") != 1 or list((spool / "pages").iterdir()):
+    if (spool / "journal").read_bytes().count(b"\n") != 1 or list((spool / "pages").iterdir()) or not client.accepted:
         yield f"where nothing is left, the journal has {(spool / 'journal').read_bytes()[:300]!r}"
-    if not client.accepted:
-        yield "nothing was accepted"

@@ -1,6 +1,7 @@
 """A tool of a network that runs for a while, with a folder of its own."""
 
 import re
+import select
 import socket
 import subprocess
 import tempfile
@@ -18,12 +19,14 @@ class Running:
         self.place = tempfile.TemporaryDirectory()
         self.folder = folder or Path(self.place.name) / "spool"
         self.process = subprocess.Popen([program.ROOT / "tools" / tool, "--port", "0", *words, self.folder],
-                                        stdout=subprocess.PIPE, stderr=subprocess.STDOUT, stdin=subprocess.DEVNULL, **more)
+                                        stdout=subprocess.PIPE, stderr=subprocess.STDOUT, stdin=subprocess.DEVNULL, bufsize=0, **more)
         self.first = self.line()
         self.port = int(re.search(r"^listens at 127\.0\.0\.1 port ([0-9]+), by the ", self.first)[1])
 
     def line(self):
-        return self.process.stdout.readline().decode()
+        """The next; empty where it ended, or tells nothing for long."""
+        told = select.select([self.process.stdout], [], [], SECONDS)[0]
+        return self.process.stdout.readline().decode() if told else ""
 
     def connect(self):
         connection = socket.create_connection(("127.0.0.1", self.port))
