@@ -28,7 +28,10 @@ class Package(NamedTuple):
 
     def read(self, url, beside=None):
         """The bytes, and the folder beside which further names stand."""
-        where = urlsplit(url)
+        try:
+            where = urlsplit(url)
+        except ValueError as fault:
+            raise Wrong(cip4.WRONG, f"{url} is no URL: {fault}") from None
         if where.scheme == "cid":
             if unquote(url[4:]) not in self.parts:
                 raise Wrong(cip4.WRONG, f"no part of the package is called {url}")
@@ -58,9 +61,9 @@ def job_of(url, package, folder):
     """The ticket, and its images, which are made in the folder."""
     data, beside = package.read(url)
     root = parsed(data, "JDF")
-    if "DigitalPrinting" not in (root.get("Type"), *(root.get("Types") or "").split()):
+    kinds = root.get("Types", "").split() if root.get("Type") == "Combined" else [root.get("Type")]
+    if "DigitalPrinting" not in kinds:
         raise Wrong(cip4.NO_NODE, f'it is a node of {root.get("Type")}')
-    kinds = [root.get("Type", "")] if root.get("Type") != "Combined" else root.get("Types").split()
     lacking = next((kind for kind in kinds if kind not in cip4.TYPES), None)
     if lacking := lacking or unknown_attribute(root, cip4.KNOWN, cip4.ANYWHERE) or unknown(root, cip4.KNOWN, cip4.ANYWHERE, cip4.PASSED_OVER):
         raise Wrong(cip4.INCAPABLE, f"{lacking} has no place in a ticket")

@@ -99,7 +99,7 @@ def carried_out(message, gate, package, sender):
 def parameters(message, row):
     """The attributes of what stands in a message; one that has no place, or stands twice, is refused."""
     found = {}
-    if lacking := unknown(message, {*row.parameters, *(place.partition("/")[0] for place in (*row.parameters, "QueueEntryDef/@QueueEntryID" * ("QueueFilter" in row.parameters)))}):
+    if lacking := unknown(message, {*row.parameters, *(place.partition("/")[0] for place in row.parameters)}):
         raise Wrong(cip4.WRONG, f"{lacking} has no place in {row.type}")
     for each in message.iter():
         for name, value in each.attrib.items() if each is not message and is_ours(each) else ():

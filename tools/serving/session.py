@@ -138,16 +138,9 @@ class Session:
             raise Ended("the press ended")
         return answer.rstrip("\n")
 
-    def spell(self, message):
-        (self.folder / MESSAGE).write_text(json.dumps({"ID": "", **message}))
-
     def ask(self, message, images=()):
         """The answer to a message in the words of the press: its own names of entries."""
-        self.spell(message)
-        return self.answer(images)
-
-    def answer(self, images):
-        """That to the message that was spelled last."""
+        (self.folder / MESSAGE).write_text(json.dumps({"ID": "", **message}))
         return json.loads(self.say(" ".join(["message", MESSAGE, *images])))
 
     def statuses(self):
@@ -167,15 +160,14 @@ class Session:
         with self.lock:
             if "QueueEntryID" in message:
                 message = {**message, "QueueEntryID": self.own(message["QueueEntryID"])}
-            before = self.statuses().get(message.get("QueueEntryID"))
-            self.spell(message)
             try:
+                before = self.statuses().get(message.get("QueueEntryID"))
                 return self.carried_out(message, images, sender), before
-            except Exception as fault:     # whether it is carried out stands in the journal alone
+            except Exception as fault:     # whether it is carried out, or one before it in the same document, stands in the journal alone
                 raise Ended(f"a message was not answered: {fault or 'memory ran out'}") from None
 
     def carried_out(self, message, images, sender):
-        answer = self.answer(images)
+        answer = self.ask(message, images)
         entry = answer.get("QueueEntryID")
         changed = answer["ReturnCode"] == 0 and message["Type"] not in QUERIES
         if changed:

@@ -61,7 +61,7 @@ SAID = [
     Said('<Command ID="s" Type="SubmitQueueEntry"><QueueSubmissionParams URL="jmf/flyer.jdf" ReturnJMF="http://mis/"/></Command>', 0, "ReturnJMF: no ReturnQueueEntry is sent"),
     Said('<Command ID="s" Type="SubmitQueueEntry"><QueueSubmissionParams/></Command>', 7, "QueueSubmissionParams/@URL is missing"),
     *(Said(f'<Command ID="s" Type="SubmitQueueEntry"><QueueSubmissionParams URL="{url}"/></Command>', 6, says)
-      for url, says in (("http://127.0.0.1/flyer.jdf", "is not fetched"), ("cid:flyer", "no part of the package is called cid:flyer"), ("jmf/none.jdf", "No such file"),
+      for url, says in (("http://127.0.0.1/flyer.jdf", "is not fetched"), ("http://[", "is no URL"), ("cid:flyer", "no part of the package is called cid:flyer"), ("jmf/none.jdf", "No such file"),
                         ("../README.md", "it is not below --files"), ("file:///etc/hostname", "it is not below --files"), ("%00", "cannot be read"), ("jmf", "Is a directory"))),
     Said('<Command ID="s" Type="SubmitQueueEntry"><QueueSubmissionParams URL="images/front.pbm"/></Command>', 3, "it is no XML that is read here"),
     Said('<Command ID="s" Type="SubmitQueueEntry"><QueueSubmissionParams URL="jmf/submit.jmf"/></Command>', 4, "its root is {http://www.CIP4.org/JDFSchema_1_1}JMF"),
@@ -123,6 +123,7 @@ JOBS = [
     Job('JobID="flyer" ', "", 6, "fault 602"),
     Job('JobID="flyer"', 'JobID="{}"'.format("x" * 64), 6, "fault 602"),
     Job("Rendering DigitalPrinting", "Rendering", 102, "it is a node of Combined"),
+    Job('Type="Combined"', 'Type="LayoutPreparation"', 102, "it is a node of LayoutPreparation"),
     Job("Rendering DigitalPrinting", "DigitalPrinting Stitching", 101, "Stitching has no place in a ticket"),
     Job('ID="n1"', 'ID="n1" Activation="Held"', 101, 'JDF/@Activation="Held"'),
     Job('Sides="TwoSidedFlipY"', 'Sides="OneSidedBackFlipX"', 101, 'LayoutPreparationParams/@Sides="OneSidedBackFlipX" has no place'),
