@@ -1,7 +1,6 @@
 """A controller of JMF, as a client of tools/jmf: documents, packages that Python's `email` makes, and what answers them."""
 
 import http.client
-import re
 import socket
 import xml.etree.ElementTree as trees
 from email.mime.application import MIMEApplication
@@ -49,8 +48,8 @@ def package(pages, name):
         part = MIMEApplication(data, kind)
         part["Content-ID"] = f"<{called}>"
         whole.attach(part)
-    head, _, body = whole.as_bytes().partition(b"\n\n")
-    return re.sub(r"\s+", " ", re.search(r"(?i)content-type:(.*?)\n(?!\s)", head.decode() + "\n", re.DOTALL)[1]).strip(), body
+    body = whole.as_bytes().partition(b"\n\n")[2]
+    return whole["Content-Type"], body
 
 
 def post(port, kind, data):
