@@ -106,6 +106,8 @@ def jobs(_):
 
 def printed(_):
     """Jobs by MIME: P4 files as they are, in two spellings, and a PDF of a page, dot for dot what `press write` and `print` make of the same image."""
+    if shutil.which("gs") is None:
+        print("Ghostscript is not installed: PDF files of JMF are not tried")
     with tempfile.TemporaryDirectory() as name, Running("jmf", BOUNDS) as running:
         place = Path(name)
         made = pages_of.print_into(place, (EXAMPLES / "streams/letter.pcl").read_bytes())

@@ -1,6 +1,7 @@
 """A controller of JMF, as a client of tools/jmf: documents, packages that Python's `email` makes, and what answers them."""
 
 import http.client
+import os
 import socket
 import xml.etree.ElementTree as trees
 from email.mime.application import MIMEApplication
@@ -96,5 +97,11 @@ def completed(answer):
 
 
 def free_port():
-    with socket.create_server((HOST, 0)) as some:
-        return some.getsockname()[1]
+    """One that no client is given: while nothing listens there, a client that had it would meet itself."""
+    for port in range(10000 + os.getpid() % 20000, 32000):
+        try:
+            with socket.create_server((HOST, port)):
+                return port
+        except OSError:
+            continue
+    raise OSError("no port is free")

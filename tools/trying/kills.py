@@ -71,8 +71,22 @@ def complaints(folder, count, seed=0):
             yield f"it ended by itself: {log.read_bytes()[-300:]!r}"
         process.kill()
         process.wait()
-    process = begin(spool, port, log)
-    time.sleep(1)
+    with begin(spool, port, log) as process:
+        try:
+            finish(client, spool)
+        finally:
+            process.terminate()
+    yield from wrong(client, spool, log)
+    print(f"kills={count} sent={client.sent} accepted={len(client.accepted)} printed={len(list(spool.glob('job-*')))}")
+
+
+def finish(client, spool):
+    """The client ends once some more are accepted; then all is printed, and removed."""
+    before = len(client.accepted)
+    for _ in range(SECONDS * 5):
+        time.sleep(0.2)
+        if len(client.accepted) > before + 2:
+            break
     client.enough = True
     client.join(SECONDS)
     for _ in range(SECONDS * 5):
@@ -80,10 +94,6 @@ def complaints(folder, count, seed=0):
         client.remove()
         if (spool / "journal").read_bytes().count(b"\n") == 1:
             break
-    process.terminate()
-    process.wait(SECONDS)
-    yield from wrong(client, spool, log)
-    print(f"kills={count} sent={client.sent} accepted={len(client.accepted)} printed={len(list(spool.glob('job-*')))}")
 
 
 def wrong(client, spool, log):
