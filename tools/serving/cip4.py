@@ -15,7 +15,12 @@ class Message(NamedTuple):
     keys: tuple = ()      # those of the press' message
 
     def cells(self):
-        return self.type, self.family, ", ".join(f"`{each}`" for each in self.parameters), ", ".join(f"`{each}`" for each in self.keys)
+        return self.type, self.family, ", ".join(map(shown, self.parameters)), ", ".join(f"`{each}`" for each in self.keys)
+
+
+def shown(place):
+    """A place, with the values that it may have, if these are some alone."""
+    return f"`{place}`" + (f" (only {' or '.join(f'`{value}`' for value in ONLY[place])})" if place in ONLY else "")
 
 
 def of_entry(kind):
@@ -117,7 +122,8 @@ def tables():
     yield lines(("Type", "Family", "Where its parameters stand", "Keys of the press"), (message.cells() for message in MESSAGES))
     yield lines(("The press answers", "CIP4", "When"), CODES)
     yield lines(("CIP4", "Answered before the press is asked"), OWN_CODES)
-    yield lines(("In JDF", "Key of the ticket", "How"), ((f"`{place}`", f"`{key}`" if key else "", how) for place, key, how in PLACES))
+    yield lines(("In JDF", "Key of the ticket", "How"), [*((f"`{place}`", f"`{key}`" if key else "", how) for place, key, how in PLACES),
+                *((", ".join(f"`{each}`" for each in some), "", "anywhere: it changes no page") for some in ([f"@{name}" for name in ANYWHERE], PASSED_OVER))])
     yield lines(("Key", "In JDF", "In the ticket"), ((key, f"`{one}`", f"`{str(other).lower() if isinstance(other, bool) else other}`")
                                                     for key, values in VALUES.items() for one, other in values.items()))
     yield lines(("Medium", "Dimension, in points"), ((name, f"`{wide} {high}`") for name, (wide, high) in POINTS.items()))

@@ -89,6 +89,8 @@ def resources(root):
         kind = local(link).removesuffix("Link")
         if local(link) in cip4.PASSED_OVER:
             continue
+        if link.get("Usage", usage := "Output" if kind == "Component" else "Input") != usage:
+            raise Wrong(cip4.INCAPABLE, f'{kind}Link/@Usage="{link.get("Usage")}" has no place in a ticket')
         if kind in linked:
             raise Wrong(cip4.INCAPABLE, f"a second {kind}Link has no place in a ticket")
         if link.get("rRef") not in found or local(found[link.get("rRef")]) != kind:

@@ -150,7 +150,7 @@ def by_hand(folder, images):
 
 
 def requests(_):
-    """Requests of HTTP, and that further ones wait while as many are answered as may be."""
+    """Requests of HTTP, that further ones wait while as many are answered as may be, and bounds of time and images."""
     with Running("jmf", ["--idle", "1", "--bytes", "100000", "--requests", "1"]) as running:
         for sent, wanted in jmf_rows.REQUESTS:
             with socket.create_connection((controller.HOST, running.port), SECONDS) as connection:
@@ -166,10 +166,23 @@ def requests(_):
             yield f"jmf: beside the most requests one is answered after {time.monotonic() - began:.1f} seconds"
 
 
+    with Running("jmf", ["--images", "1", "--seconds", "3"]) as running:
+        large = controller.post(running.port, *controller.raw_package((b"P4\n2400 3300\n" + bytes(990000)) * 2, "large"))
+        if controller.codes(large) != [112] or "more images than --images have come" not in controller.comments(large):
+            yield f"jmf, more images than may be: it answers {controller.comments(large)}"
+        began = time.monotonic()
+        with socket.create_connection((controller.HOST, running.port), SECONDS) as connection:
+            if heard_of(connection) or not 2 < time.monotonic() - began < SECONDS:
+                yield f"jmf: a request that takes long ends after {time.monotonic() - began:.1f} seconds"
+
+
 def heard_of(connection):
     heard = b""
-    while some := connection.recv(65536):
-        heard += some
+    try:
+        while some := connection.recv(65536):
+            heard += some
+    except TimeoutError:
+        heard += b"... and no end"
     return heard.decode()
 
 

@@ -137,6 +137,7 @@ JOBS = [
     Job("</ResourcePool>", "<StitchingParams/></ResourcePool>", 101, "StitchingParams has no place"),
     Job("<ResourcePool>", '<JDF ID="n2" Type="DigitalPrinting"/><ResourcePool>', 101, 'JDF has no place in a ticket'),
     Job("<RunListLink ", link("Media"), 7, 'MediaLink/@rRef="x" links no Media'),
+    Job('rRef="m1" Usage="Input"', 'rRef="m1" Usage="Output"', 101, 'MediaLink/@Usage="Output" has no place in a ticket'),
     Job("<MediaLink ", '<MediaLink rRef="m1"/><MediaLink ', 101, "a second MediaLink has no place"),
     Job('<RunListLink rRef="r1" Usage="Input"/>', "", 7, "no RunListLink links a RunList"),
     Job('Amount="3"', 'Amount="2.5"', 6, 'ComponentLink/@Amount="2.5" is no whole number'),
