@@ -40,10 +40,12 @@ _network() {
   local word="${COMP_WORDS[COMP_CWORD]}"
   if [ "${COMP_WORDS[0]}" = tools/scrub ] && [[ "$word" == -* ]]; then
     mapfile -t COMPREPLY < <(compgen -W "--pass --sides --bytes --seconds --memory --default" -- "$word")
+  elif [ "${COMP_WORDS[0]}" = tools/jmf ] && [[ "$word" == -* ]]; then
+    mapfile -t COMPREPLY < <(compgen -W "--port --listen --files --bytes --requests --idle --seconds --sides --images" -- "$word")
   elif [[ "$word" == -* ]]; then
     mapfile -t COMPREPLY < <(compgen -W "--port --listen --jobs --bytes --sides --idle --seconds --memory --default" -- "$word")
   else
     mapfile -t COMPREPLY < <(compgen -f -- "$word")
   fi
 }
-complete -o filenames -F _network tools/printer tools/scrub
+complete -o filenames -F _network tools/printer tools/scrub tools/jmf

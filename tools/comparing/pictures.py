@@ -14,6 +14,8 @@ from . import dots
 GRAPHICS = (b"%PDF", b"%!")
 PNG = b"\x89PNG"
 HALF_GREY = 128
+MEMORY, LARGEST = 4 << 20, 1 << 17     # of Ghostscript: KiB, and blocks of 512 bytes of a file
+GHOSTSCRIPT = 'ulimit -v "$1" && ulimit -f "$2" && shift 2 && exec gs "$@"'
 
 
 def of_files(names, page):
@@ -32,15 +34,15 @@ def of_file(name, page):
     raise ValueError(f"{name} is no picture: a PDF, PostScript, a P4 file or a PNG is one")
 
 
-def drawn(name, page):
-    """The pages of a PDF or of PostScript; where it says no size they have that of the page."""
+def drawn(name, page, *words):
+    """The pages of a PDF or of PostScript; where it says no size they have that of the page. Further words go to Ghostscript."""
     if shutil.which("gs") is None:
         raise ValueError(f"{name} is drawn by Ghostscript, and there is no gs: apt-get install ghostscript")
     with tempfile.TemporaryDirectory() as path:
         width, height = pdf.size_of(page)
-        words = ["-sDEVICE=pbmraw", f"-r{page.resolution}", f"-dDEVICEWIDTHPOINTS={width}", f"-dDEVICEHEIGHTPOINTS={height}", f"-sOutputFile={path}/%d.pbm"]
-        ran = subprocess.run(["gs", "-q", "-dNOPAUSE", "-dBATCH", "-dSAFER", *words, "-f", os.path.abspath(name)], stdin=subprocess.DEVNULL, capture_output=True,
-                             timeout=program.SECONDS, check=False)
+        words = [*words, "-sDEVICE=pbmraw", f"-r{page.resolution}", f"-dDEVICEWIDTHPOINTS={width}", f"-dDEVICEHEIGHTPOINTS={height}", f"-sOutputFile={path}/%d.pbm"]
+        ran = subprocess.run(["sh", "-c", GHOSTSCRIPT, "gs", str(MEMORY), str(LARGEST), "-q", "-dNOPAUSE", "-dBATCH", "-dSAFER", *words, "-f", os.path.abspath(name)],
+                             stdin=subprocess.DEVNULL, capture_output=True, timeout=program.SECONDS, check=False)
         pages = [Path(path) / f"{number}.pbm" for number in range(1, len(list(Path(path).iterdir())) + 1)]
         if ran.returncode or not pages:
             raise ValueError(f"{name} is not drawn by Ghostscript: {(ran.stderr + ran.stdout).decode(errors='replace').strip()[:200]}")

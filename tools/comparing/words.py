@@ -13,10 +13,11 @@ REFUSED = 2
 class Parser(argparse.ArgumentParser):
     """Refuses words in one line without control characters, with status 2."""
 
-    def __init__(self, about, json=True, **more):
+    def __init__(self, about, json=True, settings=True, **more):
         super().__init__(description=about, formatter_class=argparse.RawDescriptionHelpFormatter, allow_abbrev=False, **more)
-        self.add_argument(defaults.OPTION, dest="defaults", action="append", default=[], metavar="NAME=VALUE",
-                          help="what the printer's control panel would set, as RESOLUTION=600; again for more")
+        if settings:
+            self.add_argument(defaults.OPTION, dest="defaults", action="append", default=[], metavar="NAME=VALUE",
+                              help="what the printer's control panel would set, as RESOLUTION=600; again for more")
         if json:
             self.add_argument("--json", action="store_true", help="tells all as one line of JSON")
 

@@ -2,6 +2,7 @@
 when it is whole."""
 
 import os
+import re
 import shutil
 
 from reasons import streams
@@ -65,6 +66,11 @@ def open_to(folder, part):
     for path in part.iterdir():
         path.chmod(mode & 0o666)
     part.chmod(mode & 0o777)
+
+
+def last_number(folder, letter=""):
+    """The greatest number of a job's folder that is there: job-7, or job-Q7."""
+    return max((int(found[1]) for path in folder.iterdir() if (found := re.fullmatch(f"job-{letter}([0-9]{{1,9}})", path.name))), default=0)
 
 
 def take_its_name(part, folder, job):

@@ -6,6 +6,7 @@ import itertools
 from pathlib import Path
 from typing import NamedTuple
 
+from comparing import dots
 from model import defaults, pages, table
 from model.commands import Text
 from reasons import kinds
@@ -122,16 +123,15 @@ def ticket_of(some):
             "Media": size.name, "Sides": SIDES[binding], "Collate": False, "Resolution": size.resolution}
 
 
-def cut(name, size):
+def cut(page, size):
     """The P4 file of the logical page of a side, and how many black dots stand beside it."""
-    page, beside = pages_of.page_of(name), 0
-    left, width = size.portrait_offset, size.width - 2 * size.portrait_offset
-    spare, short, rows = 8 * len(page.rows[0]) - left - width, -width % 8, []
-    for row in page.rows:
-        number = int.from_bytes(row, "big")
-        within = number >> spare & (1 << width) - 1
-        beside += (number ^ within << spare).bit_count()
+    left, width, beside, rows = size.portrait_offset, size.width - 2 * size.portrait_offset, 0, []
+    spare, short = page.width - left - width, -width % 8
+    for place, row in enumerate(page.rows):
+        within = row >> spare & (1 << width) - 1 if place < size.height else 0
+        beside += (row ^ within << spare).bit_count()
         rows.append((within << short).to_bytes((width + 7) // 8, "big"))
+    rows = rows[:size.height]
     return b"P4\n%d %d\n" % (width, len(rows)) + b"".join(rows), beside
 
 
@@ -151,7 +151,7 @@ def made_anew(sheets, folder):
 
 def image_of(name, size, which):
     """The image of a side; it is refused where that is not all of it."""
-    image, beside = cut(name, size)
+    image, beside = cut(dots.side_in(name), size)
     if beside:
         raise Refused(f"it has {counted(beside, 'dot')} beside the logical page on {which}, where no image of a ticket lies")
     return image
