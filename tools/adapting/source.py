@@ -12,7 +12,7 @@ class Text:
     """The rows of a stream, and where each stands in the text. Lines are counted from 1, places from the front that sets the defaults."""
 
     def __init__(self, stream, front, chosen):
-        run = happenings.Run(stream, front=front, together=True, chosen=chosen)
+        run = happenings.Run(stream, front=front, chosen=chosen)
         rows = list(explained.rows(run))
         self.shift = len(front)
         self.starts = [row.offset + self.shift for row in rows]

@@ -70,6 +70,15 @@ class Fields:
         self.now = Now(base, kept.setdefault(x, x), kept.setdefault(y, y), line["sheets"], row_count)
         return self.now
 
+    def go_on_row(self, x, y, sheets, count):
+        """The fields behind a row within raster graphics, which changes the cursor and the number of rows alone."""
+        if count is not None:
+            count = int(count)
+            self.view["raster"] = {**self.view["raster"], "rows": count}
+        kept = self.places
+        self.now = Now(self.now.base, kept.setdefault(x, x), kept.setdefault(y, y), sheets, self.now.row_count if count is None else count)
+        return self.now
+
 
 def named(told, view):
     """The fields of the objects in which something is told, by their names."""
@@ -95,8 +104,16 @@ OTHERS = {
 
 def changes(before, after):
     """Name, value before and value after of each field that is another."""
-    some = ORDER if before.base is not after.base else OWN
-    return tuple((name, before[name], after[name]) for name in some if before[name] != after[name])
+    if before.base is not after.base:
+        return tuple((name, before[name], after[name]) for name in ORDER if before[name] != after[name])
+    return tuple((name, getattr(before, name), getattr(after, name)) for name in OWN if getattr(before, name) != getattr(after, name))
+
+
+def changes_of_row(before, after):
+    """The same behind a row within raster graphics."""
+    if before.x == after.x and before.total == after.total and before.y != after.y and before.row_count != after.row_count:
+        return ("y", before.y, after.y), ("row_count", before.row_count, after.row_count)
+    return changes(before, after)
 
 
 class State:

@@ -7,13 +7,13 @@ import array
 import json
 import tempfile
 
-from model import commands, table
+from model import commands
 
 from . import program, traced
-from .bodies import Follower, Placed
+from .bodies import Follower
 from .fields import Fields, power_on
-from .happenings import placed_commands
 from .patches import Open
+from .placing import Placer, row_of
 from .sent import letters
 
 MOST_LINES, MOST_BYTES = 256, 1_000_000   # between two places that are kept
@@ -48,20 +48,18 @@ class Film:
         self.taken, self.stacks, self.depths, self.starts = [], [], array.array("B", [0]), []
         self.flags, self.versions = array.array("B", [0]), array.array("L", [0])   # and how often the page changed by then
         self.kept = []
-        self.read(front + stream, front, chosen)
+        self.read(front + stream, chosen)
 
-    def read(self, whole, front, chosen):
+    def read(self, whole, chosen):
         """Goes through the lines once."""
-        fields, page = Fields(), Open()
-        follower = Follower(fields.go_on(power_on()), table.row_of)
-        every = iter([*placed_commands(front), *(placed._replace(offset=placed.offset + self.shift) for placed in placed_commands(self.stream))])
-        end = Placed(len(whole), 0, commands.Uel())
+        fields, page, placer = Fields(), Open(), Placer(whole)
+        follower = Follower(fields.go_on(power_on()), row_of)
         placed, changed = None, True
         self.keep(fields, page, changed)
         for text in traced.texts(whole, chosen):
             line = json.loads(text)
             if not follower.bodies:
-                placed = next(every, end)
+                placed = placer.placed(line)
                 self.starts.append(len(self.taken))
             step = follower.go_on(line, placed, fields.go_on(line))
             page.go_on(line)

@@ -159,7 +159,7 @@ def deeds(happening, pattern_id):
     for number, copies in happening.sheets:
         told.append(f"sheet {number} goes out" + (f" in {copies} copies" if copies > 1 else ""))
     for mark in happening.marks:
-        told.append(f"marks {mark.right - mark.left + 1} by {mark.bottom - mark.top + 1} dots")
+        told.append(f"marks {mark.width()} by {mark.height()} dots")
     if happening.bodies > 0:
         told.append(f"runs {plural(happening.bodies, 'recorded command')}")
     if isinstance(happening.placed.command, Param) and happening.row == "*cW":
@@ -227,15 +227,23 @@ def of_run(happenings, data, because=""):
     return f'at {first.placed.offset} to {last.placed.offset + last.placed.length - 1}: {what}, "{readable(data)}": {effect}'
 
 
-def tally(happenings):
-    """The lines of the tally: commands by kind, and how many had a row."""
-    kinds = {}
-    for happening in happenings:
+class Tally:
+    """Commands by kind, and how many of each had a row."""
+
+    def __init__(self):
+        self.kinds = {}
+
+    def add(self, happening):
         command = happening.placed.command
         shown = kind(command) if isinstance(command, (Param, Escape, Control)) else COMMANDS[type(command)]
-        count, with_row = kinds.get(shown, (0, 0))
-        kinds[shown] = (count + happening.placed.count(), with_row + (happening.row is not None))
-    taken = sum(with_row for _, with_row in kinds.values())
-    yield f"{plural(sum(count for count, _ in kinds.values()), 'command')}, {taken} with a row of the command table"
-    for shown, (count, with_row) in sorted(kinds.items(), key=lambda item: (-item[1][0], item[0])):
-        yield f"{count:7} {shown}{'' if with_row else ', no row'}"
+        some = self.kinds.setdefault(shown, [0, 0])
+        some[0] += happening.placed.count()
+        some[1] += happening.row is not None
+
+    def count(self):
+        return sum(count for count, _ in self.kinds.values())
+
+    def lines(self):
+        yield f"{plural(self.count(), 'command')}, {sum(with_row for _, with_row in self.kinds.values())} with a row of the command table"
+        for shown, (count, with_row) in sorted(self.kinds.items(), key=lambda item: (-item[1][0], item[0])):
+            yield f"{count:7} {shown}{'' if with_row else ', no row'}"

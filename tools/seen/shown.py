@@ -138,9 +138,11 @@ class Listing:
     def __init__(self, run, shift):
         self.run, self.shift = run, shift
         self.starts, self.firsts = array.array("q"), array.array("i")
-        self.entry = sum(1 + each.bodies for each in run.front)
+        self.entry, self.tally = None, remarks.Tally()
 
     def note(self, offset, entries):
+        if self.entry is None:      # behind those of the front
+            self.entry = sum(1 + each.bodies for each in self.run.front)
         self.starts.append(offset + self.shift)
         self.firsts.append(self.entry)
         self.entry += entries
@@ -149,6 +151,8 @@ class Listing:
         """Text, remark and flags of each row, and of the end."""
         for row in rows(self.run):
             self.note(row.offset, sum(1 + each.bodies for each in row.happenings))
+            for happening in row.happenings:
+                self.tally.add(happening)
             yield [shortened(row.text), shortened(row.remark, LONGEST_REMARK), flags_of(row)]
         self.note(len(self.run.stream), 1)
         yield ["the end of the stream (the press adds: uel)", of_end(self.run), flags_of_end(self.run)]
@@ -193,17 +197,17 @@ def side_value(run, recorder, number, data, each):
 def data_of(stream, front, chosen, name):
     """All that the page shows, as one value."""
     recorder = Recorder()
-    run = happenings.Run(stream, front=front, together=True, chosen=chosen, watch=recorder)
-    recorder.end()
+    run = happenings.Run(stream, front=front, chosen=chosen, watch=recorder)
     listed = Listing(run, len(front))
     texts = list(chunked(listed.texts(), ROWS_IN_CHUNK))
+    recorder.end()
     starts, columns = listed.starts, recorder.columns
     columns["own"] = [NONE if offset < 0 else bisect.bisect_right(starts, offset) - 1 for offset in columns["own"]]
     printed = [side_value(run, recorder, number, data, each)
                for number, (data, each) in enumerate(zip(sides.packed_sides(run), listed_sides(run)))]
     return {
         "name": name,
-        "facts": f"{remarks.plural(len(stream), 'byte')}, {remarks.plural(sum(each.placed.count() for each in run.happenings), 'command')}, "
+        "facts": f"{remarks.plural(len(stream), 'byte')}, {remarks.plural(listed.tally.count(), 'command')}, "
                  f"{remarks.plural(sum(copies for _, _, _, copies in run.pages_of_sides()), 'side')}; "
                  f"pages printed by {sides.who(run)}, steps told by {run.who}",
         "rows": {"count": len(starts), "size": ROWS_IN_CHUNK, "chunks": texts, "first": column(listed.firsts)},
