@@ -19,14 +19,21 @@ ERASED = Reason("erased", None, None, "Look at the fills (ESC*c1P is a white one
                 dots=following.erased_dots)
 
 
-def looked_at(shown, stream, front=b"", chosen=program.PROGRAM):
-    """The findings on a stream that is read to its end, the weightiest first; and its sides."""
+def of_kind(shown, stream):
+    """The finding on what is no stream of a printer, or None."""
     sent = stream[len(defaults.front_of(stream)):]
     if not sent:
-        return [Finding(None, f"{shown} is empty, and an empty stream prints no sheet", "Look at what made it")], []
+        return Finding(None, f"{shown} is empty, and an empty stream prints no sheet", "Look at what made it")
     kind = kinds.kind_of(sent)
     if kind and kind != "a print stream":
-        return [Finding(None, f"{shown} is {kind}; {READS}", DECODE if kind.endswith(kinds.IN_BASE_64) else AS_PCL)], []
+        return Finding(None, f"{shown} is {kind}; {READS}", DECODE if kind.endswith(kinds.IN_BASE_64) else AS_PCL)
+    return None
+
+
+def looked_at(shown, stream, front=b"", chosen=program.PROGRAM):
+    """The findings on a stream that is read to its end, the weightiest first; and its sides."""
+    if (other := of_kind(shown, stream)) is not None:
+        return [other], []
     seen = Seen(happenings.Run(stream, front=front, chosen=chosen))
     for happening, met in seen.judge.judged():
         seen.add(happening, met)

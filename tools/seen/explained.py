@@ -14,9 +14,14 @@ class Row(NamedTuple):
     offset: int
     end: int            # behind its last byte
     text: str           # a line of assembly text
-    remark: str         # where it stands, what it is and does
+    told: remarks.Remark   # where it stands, what it is and does
     happenings: list
-    met: tuple = None   # the reason why it leaves no trace, or less of one than was meant, and its key
+    met: tuple          # the reason why it leaves no trace, or less of one than was meant, and its key; or None
+    because: str        # what that reason says
+
+    @property
+    def remark(self):
+        return self.told.text()
 
 
 def run_of(happening, because):
@@ -57,12 +62,15 @@ def row_of(run, some, because, met):
     first, last = some[0], some[-1].placed
     if len(some) > 1 or first.placed.count() > 1:
         data = b"".join(bytes_of(happening.placed, run.stream) for happening in some)
-        text, remark = line_of_command(Broken(data)), remarks.of_run(some, data, because)
+        text, told = line_of_command(Broken(data)), remarks.of_run(some, data, because)
     else:
-        text, remark = line_of_command(first.placed.command), remarks.remark(first, first.before["pattern_id"], because)
-    return Row(first.placed.offset, last.offset + last.length, text, remark, some, met)
+        text, told = line_of_command(first.placed.command), remarks.remark(first, first.before["pattern_id"], because)
+    return Row(first.placed.offset, last.offset + last.length, text, told, some, met, because)
+
+
+END = "the end, where the press adds a universal exit"
 
 
 def of_end(run):
     """The remark on the exit that the press adds."""
-    return f"at {len(run.stream)}, the end, where the press adds a universal exit: {remarks.effect_of(run.end)}"
+    return f"at {len(run.stream)}, {END}: {remarks.effect_of(run.end)}"

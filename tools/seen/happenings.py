@@ -37,17 +37,18 @@ class Mark:
     def box(self):
         """Left, top, right and bottom, and how many dots are others than before, one as often as a step changed it."""
         if self.found is None:
-            boxes = [box_of(*each) for each in self.patches]
-            self.found = (*(min(box[end] for box in boxes) for end in (0, 1)), *(max(box[end] for box in boxes) for end in (2, 3)),
-                          sum(box[4] for box in boxes))
+            self.found = box_of(*self.patches[0])
+            for each in self.patches[1:]:
+                left, top, right, bottom, dots = box_of(*each)
+                box = self.found
+                self.found = min(box[0], left), min(box[1], top), max(box[2], right), max(box[3], bottom), box[4] + dots
             self.patches = None
         return self.found
 
-    def width(self):
-        return self.box()[2] - self.box()[0] + 1
-
-    def height(self):
-        return self.box()[3] - self.box()[1] + 1
+    def size(self):
+        """Its width and height."""
+        left, top, right, bottom, _ = self.box()
+        return right - left + 1, bottom - top + 1
 
     def dots(self):
         return self.box()[4]
@@ -173,7 +174,7 @@ class Run:
     def pass_over(self, line, placed):
         """A byte that has no row, and those of its kind behind it, which change nothing but the number of steps."""
         before, pattern, place, last = self.follower.fields, BYTES[type(placed.command)], line["at"] + 1, None
-        while (text := next(self.texts, None)) is not None and (found := pattern.fullmatch(text)) and int(found[1]) == place:
+        while (text := next(self.texts, None)) is not None and pattern.fullmatch(text):
             place, last = place + 1, text
         self.text = text
         if last is None:

@@ -1,12 +1,14 @@
 """A remark on a command: where it stands, what HP calls it, what its value is, and what it does here."""
 
 import functools
+from typing import NamedTuple
 
 from model import patterns, pjl
 from model.commands import Broken, Control, Escape, Foreign, Param, PjlLine, Text, Uel, kind
 from model.values import POSITIONS_PER_INCH
 
 from . import names
+from .fields import NAMES, SIZES
 
 LINE_END = b"\r\n"
 COMMANDS = {Escape: "escape", Param: "parameter", Control: "control", Text: "text", Broken: "broken", Uel: "universal exit",
@@ -26,6 +28,33 @@ FIELDS = {
     "binding": "binding", "stack": "positions pushed", "overlay": "overlay", "hpgl": "HP-GL/2", "raster_on": "raster graphics",
     "row_count": "raster rows", "defining": "open macro definition", "pjl_status": "status after each page",
 }
+
+
+OF_THE_VIEW = {
+    "cursor.pushed": "positions pushed", "drawing.pattern": "ID of the current pattern", "drawing.pattern_kind": "current pattern", "page.size": "page size",
+    "page.binding": "binding", "page.marked": "the page has a mark", "raster.left": "left edge of the raster", "raster.rows": "raster rows",
+    "settings.feed_after_return": "a CR feeds a line", "settings.return_before_feed": "an LF returns", "settings.unit": "unit of measure",
+    "settings.sheets_of_job": "sheets of this job",
+}
+
+
+def field_words():
+    """For each field of the view its words, its unit (`position` is 1/7200 inch), and the words of its values, where it has some."""
+    words = {f"{name}.{key}": (FIELDS.get(own, own), own) for name, some in NAMES.items() for key, own in some.items()}
+    words |= {name: (word, name) for name, word in OF_THE_VIEW.items()}
+    for front, name in (("PJL ", "current"), ("PJL default ", "default")):
+        words |= {f"{name}.{key}": (front + key.replace("_", " "), key) for key in ("binding", "copies", "duplex", "orientation", "page_size", "resolution")}
+    return {name: [word, unit_word(name, own), VALUES.get(name.rpartition(".")[2], {})] for name, (word, own) in words.items()}
+
+
+def unit_word(name, own):
+    if own in POSITIONS or name == "raster.left":
+        return "position"
+    return "units" if name == "settings.unit" else UNITS.get(own, "")
+
+
+VALUES = {"binding": {1: "long edge", 2: "short edge"}, "size": SIZES, "page_size": SIZES, "orientation": names.PARAMS["&lO"].values,
+          "pattern_kind": names.PATTERN_KINDS}
 
 
 def readable(data, most=60):
@@ -159,7 +188,7 @@ def deeds(happening, pattern_id):
     for number, copies in happening.sheets:
         told.append(f"sheet {number} goes out" + (f" in {copies} copies" if copies > 1 else ""))
     for mark in happening.marks:
-        told.append(f"marks {mark.width()} by {mark.height()} dots")
+        told.append("marks {} by {} dots".format(*mark.size()))
     if happening.bodies > 0:
         told.append(f"runs {plural(happening.bodies, 'recorded command')}")
     if isinstance(happening.placed.command, Param) and happening.row == "*cW":
@@ -203,20 +232,25 @@ def line_without_change(command):
     return "changes nothing"
 
 
-def told(happening, pattern_id=0, because=""):
-    """Name, value and effect, in one line of text."""
-    command = happening.placed.command
-    return f"{name_of(command)}{value_of(command)}: {effect_of(happening, pattern_id, because)}"
+class Remark(NamedTuple):
+    """What is said of a command, or of several that are passed over for one reason."""
+    place: str     # in the file
+    spelled: str   # as in PCL; empty for what is no command of it
+    what: str      # name and value, or how many bytes there are and which
+    effect: str
+
+    def text(self):
+        """One line."""
+        return f"at {self.place}{', ' + self.spelled if self.spelled else ''}: {self.what}: {self.effect}"
 
 
 def remark(happening, pattern_id=0, because=""):
-    """The same, with the place in the file, and the command as it is spelled in PCL."""
-    word = spelled(happening.placed.command)
-    return f"at {happening.placed.offset}{', ' + word if word else ''}: {told(happening, pattern_id, because)}"
+    command = happening.placed.command
+    return Remark(str(happening.placed.offset), spelled(command), name_of(command) + value_of(command), effect_of(happening, pattern_id, because))
 
 
 def of_run(happenings, data, because=""):
-    """The remark on several commands, one after another, that are passed over for one reason, and whose bytes are these."""
+    """The remark on several commands, one after another, whose bytes are these."""
     first, last, count = happenings[0], happenings[-1], sum(happening.placed.count() for happening in happenings)
     if first.how == "HP-GL/2":
         what, effect = plural(count, "command"), "ignored: HP-GL/2 is on"
@@ -224,7 +258,12 @@ def of_run(happenings, data, because=""):
         what, effect = f"{plural(count, 'byte')} of another language", NOTHING[Foreign]
     else:
         what, effect = f"{plural(count, 'byte')} of text", effect_of(first, 0, because)
-    return f'at {first.placed.offset} to {last.placed.offset + last.placed.length - 1}: {what}, "{readable(data)}": {effect}'
+    return Remark(f"{first.placed.offset} to {last.placed.offset + last.placed.length - 1}", "", f'{what}, "{readable(data)}"', effect)
+
+
+def kind_of(command):
+    """What a command is counted as."""
+    return kind(command) if isinstance(command, (Param, Escape, Control)) else COMMANDS[type(command)]
 
 
 class Tally:
@@ -234,9 +273,7 @@ class Tally:
         self.kinds = {}
 
     def add(self, happening):
-        command = happening.placed.command
-        shown = kind(command) if isinstance(command, (Param, Escape, Control)) else COMMANDS[type(command)]
-        some = self.kinds.setdefault(shown, [0, 0])
+        some = self.kinds.setdefault(kind_of(happening.placed.command), [0, 0])
         some[0] += happening.placed.count()
         some[1] += happening.row is not None
 

@@ -12,14 +12,16 @@ import json
 import sys
 import zlib
 
+from reasons import streams
+
 from . import happenings, png, remarks, sides
-from .explained import of_end, rows
-from .listing import sides as listed_sides
+from .explained import END, rows
 
 ROWS_IN_CHUNK, ENTRIES_IN_CHUNK, BYTES_IN_CHUNK = 500, 500, 1 << 20
 LEVEL = 4
 LONGEST_LINE, LONGEST_REMARK = 120, 1000
-IGNORED, SENDS, REPLIES = 1, 2, 4
+NO_SUCH_VALUE = {"resolution", "method", "value", "PJL value"}    # reasons of a value that a row does not name
+IGNORED, SENDS, REPLIES, WRONG = 1, 2, 4, 8
 MOST_PICTURES = 500
 NONE = -1
 
@@ -133,12 +135,12 @@ class Recorder:
 
 
 class Listing:
-    """The rows of a run, one after another, and for each where it starts and its first entry."""
+    """The rows of a run, one after another, and for each where it starts and its first entry. What is seen of the run is told at its end."""
 
     def __init__(self, run, shift):
         self.run, self.shift = run, shift
         self.starts, self.firsts = array.array("q"), array.array("i")
-        self.entry, self.tally = None, remarks.Tally()
+        self.entry, self.tally, self.seen = None, remarks.Tally(), streams.Seen(run)
 
     def note(self, offset, entries):
         if self.entry is None:      # behind those of the front
@@ -147,21 +149,51 @@ class Listing:
         self.firsts.append(self.entry)
         self.entry += entries
 
+    def see(self, happening, met):
+        self.tally.add(happening)
+        self.seen.add(happening, met)
+
     def texts(self):
-        """Text, remark and flags of each row, and of the end."""
-        for row in rows(self.run):
+        """Of each row, and of the end: text, place, how it is spelled, what it is, its effect, flags, and why it leaves no trace, in a few words."""
+        for row in rows(self.run, self.seen.judge, self.see):
             self.note(row.offset, sum(1 + each.bodies for each in row.happenings))
-            for happening in row.happenings:
-                self.tally.add(happening)
-            yield [shortened(row.text), shortened(row.remark, LONGEST_REMARK), flags_of(row)]
+            told = row.told._replace(effect=cause_first(row.told.effect, row.because))
+            yield [shortened(row.text), *(shortened(part, LONGEST_REMARK) for part in told), flags_of(row), cause_of(row.met)]
         self.note(len(self.run.stream), 1)
-        yield ["the end of the stream (the press adds: uel)", of_end(self.run), flags_of_end(self.run)]
+        yield ["uel", str(len(self.run.stream)), "", END, remarks.effect_of(self.run.end), flags_of_end(self.run), ""]
+
+    def row_of(self, place):
+        """The row in which a byte of the stream stands."""
+        return max(0, bisect.bisect_right(self.starts, place + self.shift) - 1)
+
+    def findings(self, name):
+        """What is wrong with the stream, each with its row."""
+        other = streams.of_kind(name, self.run.stream)
+        found = self.seen.findings(name)
+        for finding in [other] if other else found:
+            sentence = finding.sentence.removeprefix(name + " ")
+            yield {"sentence": sentence[:1].upper() + sentence[1:], "advice": finding.advice, "grade": finding.grade(),
+                   "row": None if finding.place is None else self.row_of(finding.place), "side": None if finding.page is None else finding.page - 1}
+
+
+def cause_first(effect, because):
+    """An effect, with what is wrong with it in front."""
+    behind = f"; {because}"
+    return f"{because}; {effect.removesuffix(behind)}" if because and effect.endswith(behind) else effect
+
+
+def cause_of(met):
+    if met is None:
+        return ""
+    return "no such value" if met[0].name in NO_SUCH_VALUE else met[0].name
 
 
 def flags_of(row):
     first = row.happenings[0]
     ignored = first.how in ("no row", "HP-GL/2")
-    return IGNORED * ignored + SENDS * any(each.sheets for each in row.happenings) + REPLIES * any(each.replies for each in row.happenings)
+    wrong = row.met is not None and not row.met[0].harmless
+    return (IGNORED * ignored + SENDS * any(each.sheets for each in row.happenings) + REPLIES * any(each.replies for each in row.happenings)
+            + WRONG * wrong)
 
 
 def shortened(line, most=LONGEST_LINE):
@@ -201,10 +233,11 @@ def data_of(stream, front, chosen, name):
     listed = Listing(run, len(front))
     texts = list(chunked(listed.texts(), ROWS_IN_CHUNK))
     recorder.end()
+    findings = list(listed.findings(name))
     starts, columns = listed.starts, recorder.columns
     columns["own"] = [NONE if offset < 0 else bisect.bisect_right(starts, offset) - 1 for offset in columns["own"]]
     printed = [side_value(run, recorder, number, data, each)
-               for number, (data, each) in enumerate(zip(sides.packed_sides(run), listed_sides(run)))]
+               for number, (data, each) in enumerate(zip(sides.packed_sides(run), listed.seen.sides.found))]
     return {
         "name": name,
         "facts": f"{remarks.plural(len(stream), 'byte')}, {remarks.plural(listed.tally.count(), 'command')}, "
@@ -218,6 +251,8 @@ def data_of(stream, front, chosen, name):
         "sides": printed,
         "replies": recorder.replies,
         "start": happenings.power_on()["view"],
+        "findings": findings,
+        "words": remarks.field_words(),
     }
 
 
