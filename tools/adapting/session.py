@@ -92,7 +92,7 @@ class Session:
 
     def behind_launch(self):
         self.wire.tell("initialized", {})
-        self.wire.tell("output", {"category": "console", "output": f"{len(self.film)} steps, told by {self.film.who}\n"})
+        self.wire.tell("output", {"category": "console", "output": f"{self.text.steps} steps, told by {self.film.who}\n"})
 
     def do_configurationDone(self, _asked):
         pass
@@ -172,7 +172,7 @@ class Session:
 
     def run(self, step):
         """Goes on, or back, to a stop; to the end first, and behind it the session ends."""
-        at_end = self.count == len(self.film) and step > 0
+        at_end = step > 0 and not self.film.has(self.count + 1)
         if at_end:
             self.end()
             return
@@ -187,7 +187,7 @@ class Session:
 
     def go_to(self, count, reason="step"):
         """Goes to where so many steps were taken, unless it stands at the end already."""
-        if count == self.count and count == len(self.film):
+        if count == self.count and not self.film.has(count + 1):
             self.end()
             return
         self.count = count
@@ -226,7 +226,7 @@ class Session:
         self.go_to(self.film.over(self.count))
 
     def behind_stepIn(self):
-        self.go_to(min(len(self.film), self.count + 1))
+        self.go_to(self.film.up_to(self.count + 1))
 
     def behind_stepOut(self):
         self.go_to(self.film.out(self.count))

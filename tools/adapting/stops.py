@@ -81,8 +81,7 @@ class Stops:
 
     def run(self, count, step):
         """Goes on, or back, to the next stop: how many steps were taken there, and why it stops; None at the end, or the begin."""
-        last = len(self.film) if step > 0 else 0
-        while count != last:
+        while self.film.has(count + 1) if step > 0 else count:
             count += step
             if (stop := self.at(count)) is not None:
                 return count, stop

@@ -1,6 +1,7 @@
 """A trace to walk in, forwards and back: which command each step takes, and fields and page behind any number of steps.
 
-The lines stand in a file, and the fields and the page are kept now and then, so that those of any step are made from a few lines.
+It reads the lines as far as a step is looked at. They stand in a file, and the fields and the page are kept now and then, so that those of any
+step are made from a few lines.
 """
 
 import array
@@ -47,11 +48,11 @@ class Film:
         self.lines, self.ends = tempfile.TemporaryFile(), array.array("Q", [0])
         self.taken, self.stacks, self.depths, self.starts = [], [], array.array("B", [0]), []
         self.flags, self.versions = array.array("B", [0]), array.array("L", [0])   # and how often the page changed by then
-        self.kept = []
-        self.read(front + stream, chosen)
+        self.kept, self.is_whole = [], False
+        self.reading = self.read(front + stream, chosen)
 
     def read(self, whole, chosen):
-        """Goes through the lines once."""
+        """Goes through the lines once, step by step."""
         fields, page, placer = Fields(), Open(), Placer(whole)
         follower = Follower(fields.go_on(power_on()), row_of)
         placed, changed = None, True
@@ -65,6 +66,7 @@ class Film:
             page.go_on(line)
             self.note(line, step)
             changed = changed or self.versions[-1] != self.versions[-2]
+            self.lines.seek(self.ends[-1])
             self.lines.write(text)
             self.ends.append(self.ends[-1] + len(text))
             self.depths.append(line["depth"])
@@ -73,6 +75,17 @@ class Film:
             if len(self.taken) - self.kept[-1].count >= MOST_LINES or self.ends[-1] - self.ends[self.kept[-1].count] >= MOST_BYTES:
                 self.keep(fields, page, changed)
                 changed = False
+            yield
+
+    def has(self, count):
+        """Whether there are so many steps; the lines are read as far as that."""
+        while len(self.taken) < count and not self.is_whole:
+            self.is_whole = next(self.reading, self) is self
+        return len(self.taken) >= count
+
+    def up_to(self, count):
+        """So many steps, or all where there are fewer."""
+        return count if self.has(count) else len(self.taken)
 
     def note(self, line, step):
         """Notes what went out in a step, whether it did nothing, and how often the page changed by then."""
@@ -88,7 +101,9 @@ class Film:
         self.kept.append(Kept(len(self.taken), fields, held))
 
     def __len__(self):
-        """How many steps there are."""
+        """How many steps there are; for that all lines are read."""
+        while not self.is_whole:
+            self.has(len(self.taken) + 1)
         return len(self.taken)
 
     def line(self, count):
@@ -99,6 +114,7 @@ class Film:
 
     def from_kept(self, count):
         """The last place that is kept before so many steps, and the lines from there on."""
+        self.has(max(1, count))
         low, high = 0, len(self.kept)
         while high - low > 1:
             middle = (low + high) // 2
@@ -132,19 +148,20 @@ class Film:
         return page.page
 
     def depth(self, count):
+        self.has(count)
         return self.depths[count]
 
     def next(self, count):
         """The command that the step behind so many takes; None at the end."""
-        return self.taken[count] if count < len(self) else None
+        return self.taken[count] if self.has(count + 1) else None
 
     def stack(self, count):
         """The bodies that run behind so many steps, the innermost last."""
-        return self.stacks[count] if count < len(self) else ()
+        return self.stacks[count] if self.has(count + 1) else ()
 
     def over(self, count):
         """How many steps were taken behind the next command and all that it runs."""
-        depth, count = self.depth(count), min(len(self), count + 1)
+        depth, count = self.depth(count), self.up_to(count + 1)
         while self.depth(count) > depth:
             count += 1
         return count
@@ -152,7 +169,7 @@ class Film:
     def out(self, count):
         """How many steps were taken where the innermost body that runs has ended."""
         depth = self.depth(count)
-        while count < len(self) and self.depth(count) >= max(1, depth):
+        while self.has(count + 1) and self.depth(count) >= max(1, depth):
             count += 1
         return count if depth else len(self)
 

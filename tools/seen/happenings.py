@@ -128,7 +128,7 @@ class Run:
         self.follower = Follower(self.fields.go_on(power_on()), row_of)
         self.leaves, self.marks, self.watcher = Leaves(), Marks(), sent.Watcher()
         self.placer = Placer(self.whole, len(front))
-        self.front, self.end = [], None
+        self.front, self.end, self.steps = [], None, 0
 
     def __iter__(self):
         """The happenings; those of the front, and that of the exit that is added at the end, stand by themselves."""
@@ -149,7 +149,7 @@ class Run:
                 continue
             yield self.pass_over(line, placed) if self.goes_together(placed.command, alone) else self.carry_out(line, placed)
             alone = takes_data(placed.command) or (alone and isinstance(placed.command, commands.Text))
-        self.end = self.carry_out(line, placed)
+        self.end, self.steps = self.carry_out(line, placed), line["step"]
         if next(self.texts, None) is not None:
             raise ValueError("the trace goes on behind the end of the stream")
 
