@@ -67,7 +67,7 @@ class Seen:
             page = self.pages.setdefault(number, OnPage())
         page.rows += sent.rows
         page.lost += sent.right + sent.below
-        if happening.marks and any(mark.page == number for mark in happening.marks):
+        if happening.marks and happening.marks[0].page == number:
             page.marking = happening
         if met is not None:
             add_to(page.groups, happening, *met)

@@ -136,10 +136,7 @@ def resolution_advice(_, happening):
     if number(happening) not in table.RASTER_RESOLUTIONS[FINEST]:
         return f"Have the driver send {RESOLUTIONS[happening.before['resolution']]} dots per inch (Ghostscript: -r300)"
     word = f"RESOLUTION={FINEST}"
-    if defaults.BUILT:
-        return f"This printer was not told {FINEST}: say {defaults.OPTION} {word}, or have the driver send 300 (Ghostscript: -r300)"
-    return (f"This printer was not told {FINEST}: put the line @PJL SET {word} before it, or have the driver send 300 (Ghostscript: -r300); "
-            f"tools/explain, tools/show and tools/pictures take {defaults.OPTION} {word}")
+    return f"This printer was not told {FINEST}: say {defaults.OPTION} {word}, or have the driver send 300 (Ghostscript: -r300)"
 
 
 def other_method(_, happening):

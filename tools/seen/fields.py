@@ -1,7 +1,11 @@
 """The fields of a stream's state behind a step, by the names that the tools use, from the `view` of the lines of a trace."""
 
+import functools
+
 from model import pages
 from model.values import POSITIONS_PER_INCH
+
+from . import program, traced
 
 SIZES = {1: "Executive", 2: "Letter", 3: "Legal", 6: "Ledger", 26: "A4", 27: "A3"}
 BINDINGS = {1: "LONGEDGE", 2: "SHORTEDGE"}
@@ -131,8 +135,7 @@ class State:
         return pages.logical_page(self.size, self.orientation)[1]
 
 
-def power_on():
-    """The fields before the first command."""
-    from model.trace_lines import Teller, view_of
-    state = Teller(frozenset()).engine.state
-    return {"x": state.x, "y": state.y, "sheets": 0, "view": view_of(state)}
+@functools.cache
+def power_on(chosen=program.PROGRAM):
+    """The fields before the first command: those behind the exit of an empty stream."""
+    return next(traced.lines(b"", chosen))

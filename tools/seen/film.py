@@ -54,7 +54,7 @@ class Film:
     def read(self, whole, chosen):
         """Goes through the lines once, step by step."""
         fields, page, placer = Fields(), Open(), Placer(whole)
-        follower = Follower(fields.go_on(power_on()), row_of)
+        follower = Follower(fields.go_on(power_on(chosen)), row_of)
         placed, changed = None, True
         self.keep(fields, page, changed)
         for text in traced.texts(whole, chosen):

@@ -31,8 +31,8 @@ class Mark:
 
     __slots__ = "page", "patches", "found"
 
-    def __init__(self, page):
-        self.page, self.patches, self.found = page, [], None
+    def __init__(self, page, patches):
+        self.page, self.patches, self.found = page, patches, None
 
     def box(self):
         """Left, top, right and bottom, and how many dots are others than before, one as often as a step changed it."""
@@ -102,7 +102,7 @@ class Marks(Open):
 
     def note(self, number, *patch):
         if number not in self.marks:
-            self.marks[number] = Mark(number)
+            self.marks[number] = Mark(number, [])
         self.marks[number].patches.append(patch)
 
     def taken(self):
@@ -125,7 +125,7 @@ class Run:
         self.who = traced.who(chosen)
         self.texts, self.text = iter(traced.texts(self.whole, chosen)), None
         self.fields = Fields()
-        self.follower = Follower(self.fields.go_on(power_on()), row_of)
+        self.follower = Follower(self.fields.go_on(power_on(chosen)), row_of)
         self.leaves, self.marks, self.watcher = Leaves(), Marks(), sent.Watcher()
         self.placer = Placer(self.whole, len(front))
         self.front, self.end, self.steps = [], None, 0
@@ -200,14 +200,12 @@ class Run:
         self.placer.before = "par *bW", data
         marks = ()
         if rows is not None:
-            patch = [bytes.fromhex(row) for row in rows.decode().split('","')]
-            mark = Mark(number)
-            mark.patches.append((int(left) // 8, int(top), patch, self.marks.page.lay_rows(int(left) // 8, int(top), patch)))
-            marks = (mark,)
+            left, top, patch = int(left) // 8, int(top), [bytes.fromhex(row) for row in rows.decode().split('","')]
+            marks = (Mark(number, [(left, top, patch, self.marks.page.lay_rows(left, top, patch))]),)
         gone = self.watcher.of_rows(before, command.data, bool(marks))
         now = self.follower.fields = self.fields.go_on_row(int(x), int(y), int(sheets), count)
-        return Happening(Placed(place - self.placer.shift, int(size), command), "*bW", "row", None, changes_of_row(before, now), marks, 0, (), b"", 0, number, 0,
-                         base["resolution"], before, gone, True)
+        return Happening._make((Placed._make((place - self.placer.shift, int(size), command)), "*bW", "row", None, changes_of_row(before, now), marks, 0, (),
+                                b"", 0, number, 0, base["resolution"], before, gone, True))
 
     def carry_out(self, line, placed):
         """Goes on by a command of the stream, and by the bodies that it starts."""

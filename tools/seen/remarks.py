@@ -107,11 +107,12 @@ def name_of(command):
 
 def value_of(command):
     """The value of a parameterized command with its unit or its meaning; empty where it needs none."""
-    return value_without_data(command._replace(data=b"")) if isinstance(command, Param) else ""
+    return value_without_data(*command[:4]) if isinstance(command, Param) else ""
 
 
 @functools.lru_cache(maxsize=4096)
-def value_without_data(command):
+def value_without_data(*command):
+    command = Param(*command, b"")
     known, value = names.named(command), command.value()
     spelled = command.field.decode() or "0"
     shown = f"{value.tenthousandths / 10000:.4f}".rstrip("0").rstrip(".")
@@ -128,6 +129,8 @@ def value_without_data(command):
 
 
 def shown_field(name, value):
+    if name in PLACES:
+        return str(value)
     if value is None:
         return "none"
     if isinstance(value, bool):

@@ -250,7 +250,7 @@ def data_of(stream, front, chosen, name):
         "pages": [page.value() for page in recorder.pages],
         "sides": printed,
         "replies": recorder.replies,
-        "start": happenings.power_on()["view"],
+        "start": happenings.power_on(chosen)["view"],
         "findings": findings,
         "words": remarks.field_words(),
     }
