@@ -147,6 +147,22 @@ class Film:
             page.go_on(line)
         return page.page
 
+    def dot(self, count, x, y):
+        """Whether a dot of the open page is black behind so many steps; None where it is on no page."""
+        page = self.page(count)
+        if page is None or not (0 <= x < page.width and 0 <= y < page.height):
+            return None
+        return bool(page.rows[y][x // 8] >> 7 - x % 8 & 1)
+
+    def changes_dot(self, count, x, y):
+        """Whether a step changes a dot; that a page goes out changes none of it."""
+        if not self.has(count) or self.versions[count] == self.versions[count - 1]:
+            return False
+        patch = self.line(count).get("page")
+        if not patch or not (patch["x"] <= x < patch["x"] + patch["width"] and patch["y"] <= y < patch["y"] + patch["height"]):
+            return False
+        return bool(self.dot(count, x, y)) != bool(self.dot(count - 1, x, y))
+
     def depth(self, count):
         self.has(count)
         return self.depths[count]

@@ -1,6 +1,7 @@
 """A remark on a command: where it stands, what HP calls it, what its value is, and what it does here."""
 
 import functools
+import re
 from typing import NamedTuple
 
 from model import patterns, pjl
@@ -80,6 +81,18 @@ def spelled(command):
     if isinstance(command, Control):
         return SPELLED_CONTROLS.get(command.control, "")
     return "ESC%-12345X" if isinstance(command, Uel) else ""
+
+
+TYPED = re.compile(r"(?:par |ESC)([!-/])([`-~]?)[+-]?[0-9]*(?:\.[0-9]*)?([@-^])(?: [0-9A-F]+)?")
+
+
+def typed_kind(words):
+    """A KIND as a person may type it: as a command is shown, whose value and data are dropped, or as HP spells it."""
+    if found := TYPED.fullmatch(words):
+        return "par " + "".join(found.groups())
+    if found := re.fullmatch("ESC ?([0-~])", words):
+        return "esc " + found[1]
+    return next((f"ctl {control:02X}" for control, word in SPELLED_CONTROLS.items() if word == words), words)
 
 
 def plural(count, unit):
