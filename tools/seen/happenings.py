@@ -18,7 +18,7 @@ from .leaves import Leaves
 from .patches import Open
 from .placing import PARAM, Placer, row_of
 
-LINE = rb'\{"at":(\d+),"bytes":%s,"depth":0,"last":"%s",%s"sheets":(\d+),"step":\d+,%s"x":(-?\d+),"y":(-?\d+)\}\n'
+LINE = rb'\{"at":(\d+),"bytes":%s,"depth":0,"last":"%s",%s"sheets":(\d+),"step":(\d+),%s"x":(-?\d+),"y":(-?\d+)\}\n'
 # A byte that is passed over, and a row within raster graphics, where nothing else is told.
 BYTES = {kind: re.compile(LINE % (b"1", word, b"", b"")) for kind, word in ((commands.Text, b"txt"), (commands.Foreign, b"for"))}
 PATCH = rb'(?:"page":\{"height":\d+,"rows":\["([^\]]*)"\],"width":\d+,"x":(\d+),"y":(\d+)\},)?'
@@ -115,10 +115,10 @@ class Marks(Open):
 class Run:
     """What a stream does: its happenings, one after another, and its sheets; all is known when they were asked for to the end. What stands in front
     of it sets the defaults. `watch` is handed each line, before the page goes on by it, with the step that it is of; of bytes that are passed over at
-    once the last line alone, without a step."""
+    once the last line alone, without a step. One that has a `row` is handed rows within raster graphics by it, without a line."""
 
     def __init__(self, stream, front=b"", chosen=program.PROGRAM, watch=None):
-        self.watch = watch
+        self.watch, self.watch_row = watch, getattr(watch, "row", None)
         self.stream = stream
         self.whole = front + stream
         self.chosen = chosen
@@ -136,7 +136,7 @@ class Run:
         while True:
             text = self.next_text()
             found = ROW.fullmatch(text)
-            if found and self.watch is None and (happening := self.carry_out_row(found)) is not None:
+            if found and (self.watch is None or self.watch_row) and (happening := self.carry_out_row(found)) is not None:
                 alone = False
                 yield happening
                 continue
@@ -192,8 +192,8 @@ class Run:
         before, base = self.follower.fields, self.fields.now.base
         if base.get("defining", 0) is not None or base["hpgl"] or not base["raster_on"]:
             return None
-        at, size, rows, left, top, sheets, count, x, y = found.groups()
-        place, number = int(at), self.leaves.closed
+        at, size, rows, left, top, sheets, step, count, x, y = found.groups()
+        place, number, patch = int(at), self.leaves.closed, None
         data = self.whole[place:place + int(size)]
         field = PARAM.match(data)
         command = commands.Param(*OTHER_KIND[:2], field[1], OTHER_KIND[2], data[field.end():])
@@ -204,6 +204,8 @@ class Run:
             marks = (Mark(number, [(left, top, patch, self.marks.page.lay_rows(left, top, patch))]),)
         gone = self.watcher.of_rows(before, command.data, bool(marks))
         now = self.follower.fields = self.fields.go_on_row(int(x), int(y), int(sheets), count)
+        if self.watch_row:
+            self.watch_row(self, int(step), now, count, patch and (left, top, patch))
         return Happening._make((Placed._make((place - self.placer.shift, int(size), command)), "*bW", "row", None, changes_of_row(before, now), marks, 0, (),
                                 b"", 0, number, 0, base["resolution"], before, gone, True))
 

@@ -55,11 +55,11 @@ class FilmPage:
         self.data, self.chunks = bytearray(), []
         self.hashes = None
 
-    def add(self, entry, patch):
-        rows = bytes.fromhex("".join(patch["rows"]))
-        for some, number in zip(self.boxes, (entry, patch["x"] // 8, patch["y"], len(patch["rows"][0]) // 2, len(patch["rows"]))):
+    def add(self, entry, left, top, rows):
+        """A patch, which begins at this byte and line."""
+        for some, number in zip(self.boxes, (entry, left, top, len(rows[0]), len(rows))):
             some.append(number)
-        self.data += rows
+        self.data += rows[0] if len(rows) == 1 else b"".join(rows)
         while len(self.data) >= BYTES_IN_CHUNK:
             self.chunks.append(packed(bytes(self.data[:BYTES_IN_CHUNK])))
             del self.data[:BYTES_IN_CHUNK]
@@ -93,15 +93,25 @@ class Recorder:
         entry, now = len(self.flags), run.fields.now
         self.follow_page(run, line, entry)
         stack = tuple((body.name(), body.starter.offset) for body in step.stack) if step else ()
-        across, down = happenings.cursor_dot(now)
-        told = (line["step"], line["x"], line["y"], across, down, step.placed.offset if stack else NONE, self.stacks.setdefault(stack, len(self.stacks)),
-                NONE if self.open is None else len(self.pages) - 1, line["sheets"])
-        for some, number in zip(self.columns.values(), told):
-            some.append(number)
+        self.keep_columns(line["step"], now, step.placed.offset if stack else NONE, self.stacks.setdefault(stack, len(self.stacks)))
         self.flags.append(line["depth"] + 8 * ("delivered" in line) + 16 * ("reply" in line) + 32 * ("recorded" in line))
         if "reply" in line:
             self.replies.append([entry, remarks.readable(line["reply"].encode("latin-1"), 400)])
-        self.keep_fields(run, line)
+        self.keep_fields(run, line.get("view", 0))
+
+    def row(self, run, step, now, count, patch):
+        """The same of a row within raster graphics."""
+        if patch:
+            self.open.add(len(self.flags), *patch)
+        self.keep_columns(step, now, NONE, self.stacks.setdefault((), len(self.stacks)))
+        self.flags.append(0)
+        self.keep_fields(run, 0 if count is None else {"raster": {"rows": int(count)}})
+
+    def keep_columns(self, step, now, own, stack):
+        across, down = happenings.cursor_dot(now)
+        told = step, now.x, now.y, across, down, own, stack, NONE if self.open is None else len(self.pages) - 1, now.total
+        for some, number in zip(self.columns.values(), told):
+            some.append(number)
 
     def follow_page(self, run, line, entry):
         patch = line.get("page", ())
@@ -113,13 +123,13 @@ class Recorder:
             self.open.close(entry, run.marks.page)
             self.open = None
         elif patch:
-            self.open.add(entry, patch)
+            self.open.add(entry, patch["x"] // 8, patch["y"], [bytes.fromhex(row) for row in patch["rows"]])
 
-    def keep_fields(self, run, line):
+    def keep_fields(self, run, view):
         """What changed; a chunk begins with all fields."""
         if not self.part:
             self.part.append({name: dict(some) for name, some in run.fields.view.items()})
-        self.part.append(line.get("view", 0))
+        self.part.append(view)
         if len(self.part) > ENTRIES_IN_CHUNK:
             self.end_fields()
 
