@@ -149,10 +149,10 @@ ROWS = [*HEADS, *REQUESTS, *BREAKPOINTS, *PLACES, *LAUNCHES]
 
 COMMANDS = ["initialize", "configurationDone", "restart", "setBreakpoints", "setFunctionBreakpoints", "setExceptionBreakpoints", "breakpointLocations",
             "exceptionInfo", "continue", "next", "stepIn", "stepOut", "stepBack", "reverseContinue", "pause", "gotoTargets", "goto", "threads",
-            "stackTrace", "scopes", "variables", "evaluate", "launch", "noSuchRequest", "", "do_next", "\ud800"]
+            "stackTrace", "scopes", "variables", "evaluate", "launch", "dataBreakpointInfo", "setDataBreakpoints", "completions", "noSuchRequest", "", "do_next", "\ud800"]
 NAMES = ["source", "path", "breakpoints", "line", "endLine", "condition", "hitCondition", "name", "filters", "filterOptions", "filterId", "expression",
-         "targetId", "startFrame", "levels", "variablesReference", "threadId", "frameId", "defaults", "text", "page", "stopOnEntry", "granularity"]
-WORDS = ["x", "marked", "foo", "page changed", "x > 1 and foo", "((", "not " * 150 + "x", "== 3", "% 0", "3", "par *cP", "uel", "idle", "sheet", "RESOLUTION=600",
+         "targetId", "dataId", "column", "logMessage", "startFrame", "levels", "variablesReference", "threadId", "frameId", "defaults", "text", "page", "stopOnEntry", "granularity"]
+WORDS = ["x", "dot 99, 187", "dot 999999,0", "{x} {dot 1, 1} {", "marked", "foo", "page changed", "x > 1 and foo", "((", "not " * 150 + "x", "== 3", "% 0", "3", "par *cP", "uel", "idle", "sheet", "RESOLUTION=600",
          "\ud800", "\0", "\x1b[2J", "", "last == 'par *cP'", "current.copies >= 1 or width", "9" * 50, "'", "-", "settings.unit changed"]
 NUMBERS = [0, 1, 2, 3, 12, 18, 19, -1, -10 ** 9, 10 ** 9, 10 ** 30, 2 ** 63, 1.5, -0.0, float("nan"), float("inf")]
 

@@ -1,23 +1,27 @@
 """A session of the debug adapter: what each request does, and what is answered."""
 
 import os
+import re
 from pathlib import Path
 
 from model import defaults
 from seen import drawn, film, made, program
 from seen.fields import State
 from seen.patches import Page
+from seen.printable import printable
 
 from . import conditions, told, wire
 from .asked import Asked, Refused
 from .source import Text
-from .stops import FILTERS, Stop, Stops
+from .stops import DOT, FILTERS, Stop, Stops
 
 THREAD = 1
+WORD = re.compile(r"[\w.]*$")    # that a cursor stands in
 CAPABILITIES = {
     "supportsConfigurationDoneRequest": True, "supportsFunctionBreakpoints": True, "supportsConditionalBreakpoints": True,
     "supportsHitConditionalBreakpoints": True, "supportsEvaluateForHovers": True, "supportsStepBack": True, "supportsRestartRequest": True,
     "supportsGotoTargetsRequest": True, "supportsTerminateRequest": True, "supportsBreakpointLocationsRequest": True,
+    "supportsDataBreakpoints": True, "supportsLogPoints": True, "supportsCompletionsRequest": True,
     "supportsExceptionFilterOptions": True, "supportsExceptionInfoRequest": True,
     "exceptionBreakpointFilters": [{"filter": name, "label": label, "default": False, "supportsCondition": True}
                                    for name, (label, _) in FILTERS.items()],
@@ -92,7 +96,7 @@ class Session:
 
     def behind_launch(self):
         self.wire.tell("initialized", {})
-        self.wire.tell("output", {"category": "console", "output": f"{len(self.film)} steps, told by {self.film.who}\n"})
+        self.wire.tell("output", {"category": "console", "output": f"{self.text.steps} steps, told by {self.film.who}\n"})
 
     def do_configurationDone(self, _asked):
         pass
@@ -135,10 +139,10 @@ class Session:
         self.stops.lines = some
         return {"breakpoints": answers}
 
-    def made(self, some, asked, line=None, words=None):
+    def made(self, some, asked, line=None, words=None, data=None):
         """Makes a breakpoint, and answers what became of it."""
         try:
-            one = self.stops.make(asked, self.text.begins(line) if line else None, words)
+            one = self.stops.make(asked, self.text.begins(line) if line else None, words, data)
         except conditions.BadCondition as bad:
             return {"verified": False, "message": str(bad)} | ({"line": line} if line else {})
         some.append(one)
@@ -148,6 +152,22 @@ class Session:
         some = []
         answers = [self.made(some, each, words=each.needed("name", str)) for each in asked.objects("breakpoints")]
         self.stops.kinds = some
+        return {"breakpoints": answers}
+
+    def do_dataBreakpointInfo(self, asked):
+        """A dot of the page, as `dot 300, 450`, or a field; anything else cannot be watched."""
+        name = asked.needed("name", str).strip()
+        data = name if DOT.fullmatch(name) else told.name_of(name, self.stops.step(0).now) or None
+        return {"dataId": data, "accessTypes": ["write"], "canPersist": True,
+                "description": f"{data} changes" if data else f"{printable(name)} is no field, and no dot as dot 300, 450"}
+
+    def do_setDataBreakpoints(self, asked):
+        some, answers = [], []
+        for each in asked.objects("breakpoints"):
+            data = each.needed("dataId", str)
+            answers.append(self.made(some, each, data=data) if DOT.fullmatch(data) or data in self.stops.step(0).now else
+                           {"verified": False, "message": f"{printable(data)} is no field, and no dot"})
+        self.stops.data = some
         return {"breakpoints": answers}
 
     def do_setExceptionBreakpoints(self, asked):
@@ -172,11 +192,14 @@ class Session:
 
     def run(self, step):
         """Goes on, or back, to a stop; to the end first, and behind it the session ends."""
-        at_end = self.count == len(self.film) and step > 0
+        at_end = step > 0 and not self.film.has(self.count + 1)
         if at_end:
             self.end()
             return
         self.count, stop = self.stops.run(self.count, step)
+        for text in self.stops.said:
+            self.wire.tell("output", {"category": "console", "output": text + "\n"})
+        self.stops.said.clear()
         self.stopped(stop or Stop("pause", "the end of the stream" if step > 0 else "the begin of the stream"))
 
     def end(self):
@@ -187,7 +210,7 @@ class Session:
 
     def go_to(self, count, reason="step"):
         """Goes to where so many steps were taken, unless it stands at the end already."""
-        if count == self.count and count == len(self.film):
+        if count == self.count and not self.film.has(count + 1):
             self.end()
             return
         self.count = count
@@ -226,7 +249,7 @@ class Session:
         self.go_to(self.film.over(self.count))
 
     def behind_stepIn(self):
-        self.go_to(min(len(self.film), self.count + 1))
+        self.go_to(self.film.up_to(self.count + 1))
 
     def behind_stepOut(self):
         self.go_to(self.film.out(self.count))
@@ -283,10 +306,17 @@ class Session:
 
     def do_evaluate(self, asked):
         """A field, or a condition over fields."""
-        step, text = self.stops.step(self.count), asked.needed("expression", str).strip()
-        found = conditions.read(text)(step)
-        name = next((key for key in step.now if key == text or key.endswith("." + text)), "")
-        return {"result": told.spelled(name, found, step.now["page.resolution"]), "variablesReference": 0}
+        text = asked.needed("expression", str).strip()
+        if not DOT.fullmatch(text):
+            conditions.read(text)(self.stops.step(self.count))
+        return {"result": self.stops.value(text, self.count), "variablesReference": 0}
+
+    def do_completions(self, asked):
+        """The fields and words of a condition that begin as what stands before the cursor does."""
+        text = asked.needed("text", str)[:max(0, asked.needed("column", int) - 1)]
+        begun = WORD.search(text)[0]
+        names = [*self.stops.step(0).now, "and", "or", "not", "changed", "dot "]
+        return {"targets": [{"label": name, "start": len(text) - len(begun), "length": len(begun)} for name in sorted(names) if name.startswith(begun)]}
 
 
 def told_size(now):

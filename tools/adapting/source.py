@@ -12,12 +12,14 @@ class Text:
     """The rows of a stream, and where each stands in the text. Lines are counted from 1, places from the front that sets the defaults."""
 
     def __init__(self, stream, front, chosen):
-        run = happenings.Run(stream, front=front, together=True, chosen=chosen)
-        rows = list(explained.rows(run))
-        self.shift = len(front)
-        self.starts = [row.offset + self.shift for row in rows]
-        self.size = len(stream) + self.shift
-        self.lines = [line_of(row.text, row.remark) for row in rows] + [line_of("uel", explained.of_end(run))]
+        run = happenings.Run(stream, front=front, chosen=chosen)
+        self.shift, self.size = len(front), len(stream) + len(front)
+        self.starts, self.lines = [], []
+        for row in explained.rows(run):
+            self.starts.append(row.offset + self.shift)
+            self.lines.append(line_of(row.text, row.remark))
+        self.lines.append(line_of("uel", explained.of_end(run)))
+        self.steps = run.steps
 
     def whole(self):
         """Its bytes."""

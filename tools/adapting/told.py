@@ -36,6 +36,11 @@ def spelled(name, value, resolution):
     return "changed %d times" % value if name == "page" else str(value)
 
 
+def name_of(text, told):
+    """The whole name of a field that is called so; empty where none is."""
+    return next((key for key in told if key == text or key.endswith("." + text)), "")
+
+
 def variable(name, told, inside=0):
     return {"name": name, "value": spelled(name, told[name], told["page.resolution"]), "variablesReference": inside, "evaluateName": name}
 

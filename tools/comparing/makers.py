@@ -54,7 +54,7 @@ class Makers:
         self.wanted, self.made, self.closers, self.shift = sorted(wanted), {}, {}, len(front)
         self.movers = {name: collections.deque(maxlen=KEPT) for name in PLACING}
         self.last = 0, None, None     # the step before: the page that was open before it, its line and step
-        self.run = happenings.Run(stream, front=front, together=True, chosen=chosen, watch=self.look)
+        self.run = happenings.Run(stream, front=front, chosen=chosen, watch=self.look).read()
         self.note_close(self.run)
         told = self.run.pages_of_sides()
         self.pages = [told[place][0] for place in sides.places_of_files(told)]

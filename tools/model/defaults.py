@@ -9,8 +9,6 @@ import re
 
 from . import pjl
 
-# Whether the program has `print --default NAME=VALUE`. Whoever builds it turns this; what the tools advise follows.
-BUILT = True
 OPTION = "--default"
 FRONT = re.compile(rb"(?:@PJL DEFAULT [A-Z]+=[A-Z0-9]+\n)+@PJL RESET\n")
 

@@ -30,6 +30,9 @@ def keys_up_to(upto):
     return REQUIRED + [key for key, group in OPTIONAL.items() if table.includes(upto, group)]
 
 
+KEYS = keys_up_to(table.BUILT)
+
+
 class Ticket(NamedTuple):
     job_id: str
     pages: list  # of the set, counted from 0, in order

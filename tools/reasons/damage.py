@@ -17,6 +17,8 @@ LEAST_WRONG = 2                         # rows
 MENDS = 10                              # what is tried leaves at most one wrong row for so many
 LEAST_SEEN = 4096                       # bytes of rows, of which none is above 127
 LEAST_KINDS = 32                        # of these bytes
+HIGHEST = (255,)                        # for all of those above 127
+ENOUGH = {0x00, 0x0D, *HIGHEST}         # where these are among them, there is nothing to ask
 HIGH = re.compile(rb"[\x80-\xff]")
 REPLACED = "\ufffd".encode()
 ADVICE = "Send it as it is: by a copy in binary mode, lp -o raw, or a file that no program for texts has opened"
@@ -27,12 +29,13 @@ class Rows(NamedTuple):
     count: int
     wrong: int       # that do not end where a command begins
     early: int       # of these, how many have the next transfer begin within their data
-    data: bytes
+    size: int        # bytes of their data
+    kinds: set       # of these bytes, up to one above 127 where NUL and CR are among them
 
     @classmethod
     def of(cls, stream):
-        count = wrong = early = place = 0
-        data = []
+        count = wrong = early = place = size = 0
+        kinds = set()
         while found := TRANSFER.search(stream, place):
             end = found.end() + int(found[1])
             row = stream[found.end():end]
@@ -41,8 +44,10 @@ class Rows(NamedTuple):
                 wrong, early = wrong + 1, early + (0 <= stream.find(NEXT, found.end(), end + len(NEXT)) < end)
             else:
                 place = end
-            data.append(row)
-        return cls(count, wrong, early, b"".join(data))
+            size += len(row)
+            if not ENOUGH <= kinds:
+                kinds.update(HIGHEST if HIGH.search(row) else (), row)
+        return cls(count, wrong, early, size, kinds)
 
 
 def found(shown, stream):
@@ -87,14 +92,14 @@ def as_latin(stream):
 
 def lost(rows):
     """What was taken away: the next row begins within each wrong one, but for one of so many, and one kind of byte stands in no row."""
-    if rows.wrong < LEAST_WRONG or (rows.wrong - rows.early) * MENDS > rows.wrong or len(rows.data) < LEAST_SEEN:
+    if rows.wrong < LEAST_WRONG or (rows.wrong - rows.early) * MENDS > rows.wrong or rows.size < LEAST_SEEN:
         return None
-    missing = [name for byte, name in ((0x00, "NUL (00)"), (0x0D, "CR (0D)")) if byte not in rows.data]
+    missing = [name for byte, name in ((0x00, "NUL (00)"), (0x0D, "CR (0D)")) if byte not in rows.kinds]
     return f"each {missing[0]} was taken out of its rows" if missing else None
 
 
 def seven_bits(rows):
     """Rows of many kinds of bytes, and none above 127."""
-    if len(rows.data) < LEAST_SEEN or len(set(rows.data)) < LEAST_KINDS or HIGH.search(rows.data):
+    if rows.size < LEAST_SEEN or len(rows.kinds) < LEAST_KINDS or max(rows.kinds) > 127:
         return None
-    return f"none of the {len(rows.data):,} bytes of its rows is above 127, as where the eighth bit is dropped"
+    return f"none of the {rows.size:,} bytes of its rows is above 127, as where the eighth bit is dropped"

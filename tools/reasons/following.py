@@ -4,7 +4,6 @@ rows of nothing that repeat the row above, and pages that move from one to the n
 from typing import NamedTuple
 
 from model import rows
-from model.commands import Param
 from model.values import POSITIONS_PER_INCH
 from seen import remarks
 from seen.sent import SENDING, letters
@@ -29,120 +28,184 @@ class Unended(NamedTuple):
     ended_by: object   # the happening that ends it, or None at the end
 
 
+# The reasons that what follows decides, in the order of the table.
+LATE = ("a macro that is not ended", "an overlay of nothing", "a row that repeats", "a front without its back", "margin that is put back")
+
+
 class Following:
-    """What is known of each command by its identity, once all that follows was seen."""
+    """What is known of commands by what follows them, each by its place. `held` are the places of those that wait for it, and `late` of those that
+    something was found of."""
 
     def __init__(self, run):
-        self.unended = dict(unended(run.happenings))
-        self.idle_overlays = set(idle_overlays([*run.happenings, run.end]))
-        self.put_back = set(put_back(run.happenings))
-        self.repeated = {id(each): each.sent.again for some in repeated(run) for each in some}
+        self.run = run
+        self.held, self.late = set(), set()
+        self.unended, self.idle_overlays, self.put_back, self.repeated, self.fronts = {}, set(), set(), {}, set()
+        self.begun, self.recorded = None, 0             # a macro definition, and how many commands it has
+        self.put_on, self.closed = None, False          # an overlay, and whether a page closed under it
+        self.sought = None                              # what puts a margin back, until something is sent
+        self.white, self.rows, self.last, self.scale = None, {}, 0, 0   # of a raster: whether it begins with white rows, its rows that repeat
+        self.asking = []                                # fronts that went out alone, until another sheet goes out
+        self.moving = Moving()
 
+    def hold(self, happening):
+        self.held.add(happening.placed.offset)
 
-def unended(happenings):
-    begun, count = None, 0
-    for each in happenings:
-        if begun is not None and each.how == "recorded":
-            count += each.placed.count()
-        elif with_value(each, "&fX", BEGIN) and not each.depth:
-            begun, count = each, 0
-        elif begun is not None and any(name == "defining" for name, _, _ in each.changes):
-            if not with_value(each, "&fX", END):
-                yield id(begun), Unended(count, each)
-            begun = None
-    if begun is not None:
-        yield id(begun), Unended(count, None)
+    def release(self, happening, found=None, told=True):
+        """It waits no longer; what is found of it, if anything."""
+        if happening is None:
+            return
+        place = happening.placed.offset
+        self.held.discard(place)
+        if isinstance(found, dict):
+            found[place] = told
+        elif found is not None:
+            found.add(place)
+        if found is not None:
+            self.late.add(place)
 
+    def go_on(self, each):
+        key = letters(each.placed.command) if each.how == "row" else ""
+        if key == "*bW" and self.sought is self.begun is self.put_on is None and not self.asking and self.white is False and not each.closes \
+                and self.moving.page == each.page:
+            return
+        if self.asking and each.sheets and self.asking[0] is not each:
+            self.pages_follow(True, each)
+        self.follow_macro(each, key)
+        self.follow_overlay(each, key)
+        self.follow_margin(each, key)
+        self.follow_rows(each)
+        if key in SENDING and not each.bodies:
+            self.moving.go_on(each)
 
-def idle_overlays(happenings):
-    """Overlays that are put on, and under which pages close, and no body runs."""
-    put_on, closed = None, False
-    for each in happenings:
-        if put_on is not None and each.closes and each.before["overlay"] is not None:
-            closed, put_on = True, None if each.bodies else put_on
-        if put_on is not None and closed and is_taken_off(each):
-            yield id(put_on)
-            put_on = None
-        if with_value(each, "&fX", OVERLAY):
-            put_on, closed = each, False
-    if put_on is not None and closed:
-        yield id(put_on)
+    def end(self):
+        """Goes on by the exit that is added."""
+        end = self.run.end
+        self.pages_follow(bool(end.sheets))
+        if self.begun is not None:
+            self.release(self.begun, self.unended, Unended(self.recorded, None))
+        self.follow_overlay(end, "")
+        self.release(self.put_on, self.idle_overlays if self.closed else None)
+        self.release(self.sought)
+        self.end_rows()
+
+    def ask_for_pages(self, happening):
+        self.asking.append(happening)
+        self.hold(happening)
+
+    def pages_follow(self, they_do, last=None):
+        """Whether pages follow those that ask for them, but for the last one."""
+        for happening in self.asking:
+            if happening is not last:
+                self.release(happening, self.fronts if they_do else None)
+        self.asking = [happening for happening in self.asking if happening is last]
+
+    def follow_macro(self, each, key):
+        if self.begun is not None and each.how == "recorded":
+            self.recorded += each.placed.count()
+        elif key == "&fX" and with_value(each, key, BEGIN) and not each.depth:
+            self.release(self.begun)
+            self.begun, self.recorded = each, 0
+            self.hold(each)
+        elif self.begun is not None and any(name == "defining" for name, _, _ in each.changes):
+            ended = with_value(each, "&fX", END)
+            self.release(self.begun, None if ended else self.unended, Unended(self.recorded, each))
+            self.begun = None
+
+    def follow_overlay(self, each, key):
+        """Overlays that are put on, and under which pages close, and no body runs."""
+        if self.put_on is not None and each.closes and each.before["overlay"] is not None:
+            self.closed = True
+            if each.bodies:
+                self.take_off(None)
+        if self.put_on is not None and self.closed and is_taken_off(each):
+            self.take_off(self.idle_overlays)
+        if key == "&fX" and with_value(each, key, OVERLAY):
+            self.take_off(None)
+            self.put_on, self.closed = each, False
+            self.hold(each)
+
+    def take_off(self, found):
+        self.release(self.put_on, found)
+        self.put_on = None
+
+    def follow_margin(self, each, key):
+        """Commands of page size and orientation that change the top margin, which nothing sets again before something is sent."""
+        if self.sought is not None and key in SENDING:
+            self.release(self.sought, self.put_back)
+            self.sought = None
+        if any(name == SETTLED for name, _, _ in each.changes):
+            self.release(self.sought)
+            self.sought = each if key in ("&lO", "&lA") else None
+            if self.sought:
+                self.hold(each)
+
+    def follow_rows(self, each):
+        """The rows of nothing that repeat, of each raster that ends with many of them. A driver that means them skips white rows: where the first row
+        of the raster is one of nothing, onto white, it sends white rows so."""
+        if letters(each.placed.command) == "*bW":
+            if self.white is None and each.how == "row":
+                self.white = not each.placed.command.data and not each.sent.again
+            if not is_repeat(each):
+                self.last = 0
+            else:
+                self.last, self.scale = self.last + 1, each.before["raster_resolution"]
+                if self.white:
+                    self.rows[each.placed.offset] = each.sent.again
+                    self.hold(each)
+        if any(name == "raster_on" and before for name, before, _ in each.changes):
+            self.end_rows()
+
+    def end_rows(self):
+        if self.rows and self.last >= REPEATED_INCHES * self.scale:
+            self.repeated.update(self.rows)
+            self.late.update(self.rows)
+        self.held.difference_update(self.rows)
+        self.white, self.rows, self.last = None, {}, 0
 
 
 def is_taken_off(happening):
     return any(name == "overlay" for name, _, _ in happening.changes)
 
 
-def put_back(happenings):
-    """Commands of page size and orientation that change the top margin, which nothing sets again before something is sent."""
-    sought = None
-    for each in happenings:
-        if sought is not None and each.how == "row" and letters(each.placed.command) in SENDING:
-            yield id(sought)
-            sought = None
-        if not any(name == SETTLED for name, _, _ in each.changes):
-            continue
-        sought = each if letters(each.placed.command) in ("&lO", "&lA") and each.how == "row" else None
-
-
 def is_repeat(happening):
-    command = happening.placed.command
-    return isinstance(command, Param) and happening.sent.again > 0 and not command.data and happening.before["method"] == rows.DELTA_ROW
+    return happening.sent.again > 0 and not happening.placed.command.data and happening.before["method"] == rows.DELTA_ROW
 
 
-def repeated(run):
-    """The rows of nothing that repeat, of each raster that ends with many of them. A driver that means them skips white rows: where the first row of
-    the raster is one of nothing, onto white, it sends white rows so."""
-    some, last, white = [], 0, None
-    for each in [*run.happenings, run.end]:
-        if white is None and letters(each.placed.command) == "*bW" and each.how == "row":
-            white = not each.placed.command.data and not each.sent.again
-        if is_repeat(each):
-            last += 1
-            some.append(each)
-        elif last and letters(each.placed.command) == "*bW":
-            last = 0
-        if some and (each is run.end or ends_raster(each)):
-            if white and last >= REPEATED_INCHES * some[-1].before["raster_resolution"]:
-                yield some
-            some, last = [], 0
-        if ends_raster(each):
-            white = None
+class Moving:
+    """How far below the top of each page stands what is sent to it first."""
 
+    def __init__(self):
+        self.page, self.pages = None, 0
+        self.place = self.step = self.second = None
+        self.is_steady, self.kind = True, None
 
-def ends_raster(happening):
-    return any(name == "raster_on" and before for name, before, _ in happening.changes)
+    def go_on(self, each):
+        if each.page == self.page:
+            return
+        place, kind = each.before["y"] + each.before[SETTLED], (each.before["size"], each.before["orientation"], each.resolution)
+        if self.pages:
+            step = place - self.place
+            self.second = self.second or each
+            self.is_steady = self.is_steady and self.kind == kind and self.step in (None, step)
+            self.step = step
+        self.page, self.pages, self.place, self.kind = each.page, self.pages + 1, place, kind
 
-
-def first_places(run):
-    """Of each page that something was sent to, the happening that first sends, and how far below the top of the page it stands."""
-    places, page = {}, 0
-    for each in run.happenings:
-        if each.how == "row" and not each.bodies and letters(each.placed.command) in SENDING and page not in places:
-            places[page] = each, each.before["y"] + each.before[SETTLED]
-        page = each.page
-    return places
-
-
-def moving(shown, run, side_of):
-    """A finding where each page stands as far above or below the one before."""
-    places = [place for _, place in sorted(first_places(run).items())]
-    steps = {after - before for (_, before), (_, after) in zip(places, places[1:])}
-    kinds = {(each.before["size"], each.before["orientation"], each.resolution) for each, _ in places}
-    if len(places) < LEAST_MOVED or len(steps) != 1 or not (step := steps.pop()) or len(kinds) != 1:
-        return
-    second, place = places[1]
-    dots = step * second.resolution / POSITIONS_PER_INCH
-    yield Finding(None, f"{shown} moves from page to page: what each of its {counted(len(places), 'page')} sends first stands {abs(dots):g} dots "
-                  f"{'below' if dots > 0 else 'above'} that of the page before, on side {side_of(second)} by {remarks.spelled(second.placed.command)} "
-                  f"{groups.place_of(second)}", "Look at what its driver places each page by: ESC*p#Y, ESC&a#V, or nothing behind a form feed",
-                  remark=True, page=side_of(second), place=second.placed.offset, command=remarks.spelled(second.placed.command))
+    def finding(self, shown, side_of):
+        """A finding where each page stands as far above or below the one before."""
+        if self.pages < LEAST_MOVED or not self.is_steady or not self.step:
+            return
+        second = self.second
+        dots, command = self.step * second.resolution / POSITIONS_PER_INCH, remarks.spelled(second.placed.command)
+        yield Finding(None, f"{shown} moves from page to page: what each of its {counted(self.pages, 'page')} sends first stands {abs(dots):g} dots "
+                      f"{'below' if dots > 0 else 'above'} that of the page before, on side {side_of(second)} by {command} "
+                      f"{groups.place_of(second)}", "Look at what its driver places each page by: ESC*p#Y, ESC&a#V, or nothing behind a form feed",
+                      remark=True, page=side_of(second), place=second.placed.offset, command=command)
 
 
 # What the reasons say
 
 def because_unended(judge, happening):
-    found = judge.following.unended[id(happening)]
+    found = judge.following.unended[happening.placed.offset]
     by = f"{groups.named(found.ended_by)} {groups.place_of(found.ended_by)} ends it without" if found.ended_by else "the stream ends before"
     are = "is" if found.commands == 1 else "are"
     return f"{by} ESC&f1X, so the {counted(found.commands, 'command')} behind it {are} recorded, and lost"
@@ -157,28 +220,26 @@ def because_put_back(_, happening):
             f"{'below' if dots > 0 else 'above'} where the margin before it put it")
 
 
-def repeats(judge, some, _):
-    dots = sum(judge.following.repeated[id(each)] for each in some)
-    each = "it repeats the row above it" if len(some) == 1 else "each repeats the row above it"
-    return (f"has {counted(len(some), 'row')} of no bytes by method 3 (ESC*b0W) from byte {some[0].placed.offset:,} on, and {each}: "
-            f"{counted(dots, 'black dot')}")
+def repeats(_, group):
+    each = "it repeats the row above it" if group.count == 1 else "each repeats the row above it"
+    return (f"has {counted(group.count, 'row')} of no bytes by method 3 (ESC*b0W) {groups.from_byte(group)}, and {each}: "
+            f"{counted(group.lost, 'black dot')}")
 
 
-def erases(judge, happening):
-    """A fill with white that erases dots of a page which is not blank: of a blank one it is told as the cause."""
-    erased = with_value(happening, "*cP", WHITE) and any(mark.page not in judge.blank_pages for mark in happening.marks)
-    return "fills" if erased else None
+def erases(_, happening):
+    """A fill with white that erases dots; of a page that is blank it is told as the cause, and not by itself."""
+    return "fills" if happening.marks and with_value(happening, "*cP", WHITE) else None
 
 
 def erased_dots(happening):
-    return sum(mark.dots for mark in happening.marks)
+    return sum(mark.dots() for mark in happening.marks)
 
 
-def erased(_, some, __):
-    fills = "a fill with white" if len(some) == 1 else f"{len(some):,} fills with white"
-    return f"has {counted(sum(map(erased_dots, some)), 'black dot')} that {fills} ({groups.named(some[0])} {groups.place_of(some[0])}) {'erases' if len(some) == 1 else 'erase'}"
+def erased(_, group):
+    fills = "a fill with white" if group.count == 1 else f"{group.count:,} fills with white"
+    return (f"has {counted(group.lost, 'black dot')} that {fills} ({groups.named(group.first)} {groups.place_of(group.first)}) "
+            f"{'erases' if group.count == 1 else 'erase'}")
 
 
-def transparent(_, some, __):
-    count = sum(len(each.placed.command.data) for each in some)
-    return f"has {counted(count, 'byte')} of transparent data (ESC&p#X) from byte {some[0].placed.offset:,} on, and text leaves no marks"
+def transparent(_, group):
+    return f"has {counted(sum(size * count for size, count in group.names.items()), 'byte')} of transparent data (ESC&p#X) {groups.from_byte(group)}, and text leaves no marks"

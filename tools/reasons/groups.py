@@ -13,16 +13,12 @@ LONGEST_NAME = 64   # characters that are told of a name
 CUT = re.compile(rb"\x1b([!-/])([`-~]?)([+-]?[0-9]*(?:\.[0-9]*)?)([@-^`-~])(.*)", re.DOTALL)
 
 
-def count_of(some):
-    return sum(each.placed.count() for each in some)
-
-
 def place_of(happening):
     return f"at byte {happening.placed.offset:,}"
 
 
-def more(some):
-    return f" and {counted(len(some) - 1, 'time')} more" if len(some) > 1 else ""
+def more(group):
+    return f" and {counted(group.count - 1, 'time')} more" if group.count > 1 else ""
 
 
 def named(happening):
@@ -37,71 +33,75 @@ def of_a_kind(happening):
     return "ESC" + chr(command.character) + ("" if command.group is None else chr(command.group)) + "#" + chr(command.end)
 
 
-def sends(judge, some, reason):
-    return f"sends {named(some[0])} {place_of(some[0])}{more(some)}: {reason.because(judge, some[0])}"
+def sends(judge, group):
+    return f"sends {named(group.first)} {place_of(group.first)}{more(group)}: {group.because(judge)}"
 
 
-def plain(judge, some, reason):
-    return f"has {named(some[0])} {place_of(some[0])}{more(some)}: {reason.because(judge, some[0])}"
+def plain(judge, group):
+    return f"has {named(group.first)} {place_of(group.first)}{more(group)}: {group.because(judge)}"
 
 
-def first_of_many(judge, some, reason):
+def first_of_many(judge, group):
     """Several commands that say one thing."""
-    others = sorted({of_a_kind(each) for each in some} - {of_a_kind(some[0])})
-    behind = f", and {counted(len(some) - 1, 'command')} like it" if len(some) > 1 else ""
+    first = of_a_kind(group.first)
+    others = sorted(set(group.names) - {first})
+    behind = f", and {counted(group.count - 1, 'command')} like it" if group.count > 1 else ""
     behind += f" ({', '.join(others[:3])}{' ..' if len(others) > 3 else ''})" if others else ""
-    return f"sends {of_a_kind(some[0])} {place_of(some[0])}{behind}: {reason.because(judge, some[0])}"
+    return f"sends {first} {place_of(group.first)}{behind}: {group.because(judge)}"
 
 
 def silent(*_):
     return None
 
 
-def language(judge, some, _):
-    return (f"enters the language {judge.language(some[0])}, and {counted(count_of(some), 'byte')} from byte {some[0].placed.offset:,} on are "
+def from_byte(group):
+    return f"from byte {group.first.placed.offset:,} on"
+
+
+def language(_, group):
+    return (f"enters the language {group.key}, and {counted(group.commands, 'byte')} {from_byte(group)} are "
             "skipped; the press reads PCL and PJL")
 
 
-def plot(_, some, __):
-    return f"enters HP-GL/2, and {counted(count_of(some), 'command')} from byte {some[0].placed.offset:,} on are skipped"
+def plot(_, group):
+    return f"enters HP-GL/2, and {counted(group.commands, 'command')} {from_byte(group)} are skipped"
 
 
-def text(_, some, __):
-    return f"has {counted(count_of(some), 'byte')} of text from byte {some[0].placed.offset:,} on, and text leaves no marks"
+def text(_, group):
+    return f"has {counted(group.commands, 'byte')} of text {from_byte(group)}, and text leaves no marks"
 
 
-def fills(_, some, __):
-    times = f", and {counted(len(some) - 1, 'fill')} like it" if len(some) > 1 else ""
-    return f"has a fill {place_of(some[0])} that marks nothing{times}"
+def fills(_, group):
+    times = f", and {counted(group.count - 1, 'fill')} like it" if group.count > 1 else ""
+    return f"has a fill {place_of(group.first)} that marks nothing{times}"
 
 
-def late(_, some, __):
-    rows, height = sum(each.sent.late for each in some), some[0].before["source_height"]
+def late(_, group):
+    height = group.first.before["source_height"]
     height = f" of {height:,}" if height is not None else ""
-    return f"has {counted(rows, 'row')} past the raster height{height} from byte {some[0].placed.offset:,} on"
+    return f"has {counted(group.sent.late, 'row')} past the raster height{height} {from_byte(group)}"
 
 
-def lost(_, some, __):
-    black, right, below = (sum(getattr(each.sent, name) for each in some) for name in ("black", "right", "below"))
-    parts = [f"{count:,} past the {side} edge" for count, side in ((right, "right"), (below, "lower")) if count]
-    return (f"loses {right + below:,} of the {counted(black, 'black dot')} that it sends from byte {some[0].placed.offset:,} on: "
-            + " and ".join(parts))
+def lost(_, group):
+    sent = group.sent
+    parts = [f"{count:,} past the {side} edge" for count, side in ((sent.right, "right"), (sent.below, "lower")) if count]
+    return f"loses {sent.lost():,} of the {counted(sent.black, 'black dot')} that it sends {from_byte(group)}: " + " and ".join(parts)
 
 
-def broken(_, some, __):
-    what = "an escape sequence" if some[0].placed.command.broken[:1] == b"\x1b" else "a PJL line"
-    pieces = f"; {len(some):,} pieces are ignored" if len(some) > 1 else ""
-    return f"has {what} {place_of(some[0])} that does not go on, and it is ignored{pieces}"
+def broken(_, group):
+    what = "an escape sequence" if group.first.placed.command.broken[:1] == b"\x1b" else "a PJL line"
+    pieces = f"; {group.count:,} pieces are ignored" if group.count > 1 else ""
+    return f"has {what} {place_of(group.first)} that does not go on, and it is ignored{pieces}"
 
 
-def fronts(_, some, __):
-    what = f"{counted(len(some), 'front')} that {'goes out alone' if len(some) == 1 else 'go out alone'}"
-    return f"has {what}, without a back, in duplex, the first by {named(some[0])} {place_of(some[0])}, and pages follow"
+def fronts(_, group):
+    what = f"{counted(group.count, 'front')} that {'goes out alone' if group.count == 1 else 'go out alone'}"
+    return f"has {what}, without a back, in duplex, the first by {named(group.first)} {place_of(group.first)}, and pages follow"
 
 
-def variables(_, some, __):
-    names = list(dict.fromkeys(job_name(each) for each in some))
-    return (f"sets {counted(len(names), 'PJL variable')} that this press does not have, from byte {some[0].placed.offset:,} on: "
+def variables(_, group):
+    names = list(group.names)
+    return (f"sets {counted(len(names), 'PJL variable')} that this press does not have, {from_byte(group)}: "
             + ", ".join(names[:6]) + (" .." if len(names) > 6 else ""))
 
 

@@ -64,9 +64,3 @@ def other_word(_, happening):
 
 def because_of_word(_, happening):
     return f"{shown(read(happening).word)} is no PJL command of this press"
-
-
-def languages(run):
-    """The place of each line that enters a language, in order, and the language."""
-    lines = [each.placed for each in run.happenings if isinstance(each.placed.command, PjlLine)]
-    return [(line.offset, shown(language)) for line in lines if (language := pjl.language_of_line(line.command.line))]

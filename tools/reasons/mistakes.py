@@ -7,8 +7,6 @@ or something else than was meant. What is said first has to have each of the tex
 import base64
 from typing import NamedTuple
 
-from model import defaults, table
-
 TICKET = b'{"Amount":1,"JobID":"J","NPage":1,"Type":"DigitalPrinting","Version":"1.5"}'
 DOT = b"P4 1 1\n\x80"
 UEL = b"\x1b%-12345X"
@@ -182,26 +180,22 @@ DEBUGGERS = [
     debugged(b"go 1\nclear 3\n", "line 2 is answered fault 502", "no breakpoint stands"),
     debugged(b"break uel\n" * 33, "line 33 is answered fault 501", "clear 0"),
 ]
-# What only a program can be asked that has these groups.
-NEWER = {
-    "resolution": [
-        written(ticket(b"{", b'{"Resolution":450,'), "Resolution that is 450", "300 or 600", number=602),
-        Mistake("write t.json job.prn a.pbm", 612, ("first image a.pbm is 2,401 dots wide", "room for 2,400", "or for 600 dots per inch"),
-                {"t.json": TICKET, "a.pbm": b"P4 2401 1\n" + bytes(301)}),
-        Mistake("write t.json job.prn a.pbm", 613, ("first image a.pbm is 6,601 dots tall", "Letter at 600 dots per inch has room for 6,600"),
-                {"t.json": ticket(b"{", b'{"Resolution":600,'), "a.pbm": b"P4 1 6601\n" + bytes(6601)}),
-    ],
-    "engines": [
-        Mistake("press --engines 5", 701, ("--engines asks for 5 engines", "1 to 4 engines")),
-        Mistake("press --engines 0", 701, ("--engines asks for 0 engines",)),
-        Mistake("press --engines two", 2, ("--engines asks for two", "press press [--engines N]")),
-        Mistake("press --engines", 2, ("--engines asks for nothing",)),
-        Mistake("press --engines 2", 702, ("line 2 names engine 2, and the press has 2 engines", "counted from 0"), given=b"pause\nturn 0 2\n"),
-        played(b"turn 5 1\n", "line 1 names engine 1, and the press has 1 engine", number=702),
-        played(b"turn 5 x\n", "line 1 is none of a session", "turn N [ENGINE]"),
-    ],
-}
-# What only a program can be asked that takes defaults.
+RESOLUTIONS = [
+    written(ticket(b"{", b'{"Resolution":450,'), "Resolution that is 450", "300 or 600", number=602),
+    Mistake("write t.json job.prn a.pbm", 612, ("first image a.pbm is 2,401 dots wide", "room for 2,400", "or for 600 dots per inch"),
+            {"t.json": TICKET, "a.pbm": b"P4 2401 1\n" + bytes(301)}),
+    Mistake("write t.json job.prn a.pbm", 613, ("first image a.pbm is 6,601 dots tall", "Letter at 600 dots per inch has room for 6,600"),
+            {"t.json": ticket(b"{", b'{"Resolution":600,'), "a.pbm": b"P4 1 6601\n" + bytes(6601)}),
+]
+ENGINES = [
+    Mistake("press --engines 5", 701, ("--engines asks for 5 engines", "1 to 4 engines")),
+    Mistake("press --engines 0", 701, ("--engines asks for 0 engines",)),
+    Mistake("press --engines two", 2, ("--engines asks for two", "press press [--engines N]")),
+    Mistake("press --engines", 2, ("--engines asks for nothing",)),
+    Mistake("press --engines 2", 702, ("line 2 names engine 2, and the press has 2 engines", "counted from 0"), given=b"pause\nturn 0 2\n"),
+    played(b"turn 5 1\n", "line 1 names engine 1, and the press has 1 engine", number=702),
+    played(b"turn 5 x\n", "line 1 is none of a session", "turn N [ENGINE]"),
+]
 DEFAULTS = [
     Mistake("print --list --default RESOLUTION=700 in.pcl", 2, ("--default asks for RESOLUTION=700", "as RESOLUTION=600"), {"in.pcl": b"\x0c"}),
     Mistake("print --list --default RETRO=1 in.pcl", 2, ("--default asks for RETRO=1", "The variables are COPIES"), {"in.pcl": b"\x0c"}),
@@ -209,5 +203,4 @@ DEFAULTS = [
     Mistake("print --list --default RESOLUTION=600 in.pcl", 0, ("sends ESC*t180R", "75, 100, 150, 200, 300 or 600"),
             {"in.pcl": b"\x1b*t180R\x1b*r0A\x1b*b1W\xff\x0c"}),
 ]
-MISTAKES = [*WORDS, *FILES, *TEXTS, *TICKETS, *IMAGES, *STREAMS, *SESSIONS, *DEBUGGERS,
-            *(DEFAULTS if defaults.BUILT else []), *(mistake for group, some in NEWER.items() if table.includes(table.BUILT, group) for mistake in some)]
+MISTAKES = [*WORDS, *FILES, *TEXTS, *TICKETS, *IMAGES, *STREAMS, *SESSIONS, *DEBUGGERS, *DEFAULTS, *RESOLUTIONS, *ENGINES]

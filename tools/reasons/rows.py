@@ -106,6 +106,7 @@ ROWS = [
     Row("a row that is cut", b"\x1b*r0A\x1b*b100W\xff\xff", ("prints no sheet: it has", "ends within the data of ESC*b100W, which has 2 of 100 bytes"),
         "which has 2 of 100 bytes", True),
     Row("broken", b"\x1b*p10\x0c", ("it is blank: it has an escape sequence at byte 0 that does not go on",), "no row: ignored", True),
+    Row("broken", b"\x1b*p10x20\x0c", ("it is blank: it has an escape sequence at byte 6",), '"\\x1B*p20", which begins a command and does not go on', True),
     Row("dots beside the page", b"\x1b*p2390X\x1b*t300R\x1b*r1A\x1b*b2W\xff\xff\x0c", ("loses 6 of the 16 black dots", "6 past the right edge"),
         "6 dots of 16 past the right edge are dropped"),
     Row("dots beside the page", b"\x1b*p9999Y\x1b*t300R\x1b*r1A\x1b*b2W\xff\xff\x0c", ("it is blank: it loses 16 of the 16 black dots", "16 past the lower edge"),

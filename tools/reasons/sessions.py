@@ -2,15 +2,14 @@
 
 import json
 
-from model import press_lines, table
+from model import press_lines
 from model.press import NO_ENGINE, PARAMETERS
 from seen import program
 
 from . import files, images, json_faults, tickets
 from .finding import Finding, Found, counted
 
-ENGINES = table.includes(table.BUILT, "engines")
-LINES = (f"A line is message FILE IMG.., turn N{' [ENGINE]' if ENGINES else ''}, pause, continue or abort, "
+LINES = (f"A line is message FILE IMG.., turn N [ENGINE], pause, continue or abort, "
          "with one space between words")
 STATUSES = {
     "HoldQueueEntry": "Waiting", "ResumeQueueEntry": "Held or Suspended", "SuspendQueueEntry": "Running",
@@ -54,7 +53,7 @@ def findings(script, engines, chosen=program.PROGRAM):
 def missing_engine(words, engines):
     """The engine that a turn names and that there is not, or None."""
     numbers = [press_lines.number_of(word) for word in words[1:]]
-    turn = ENGINES and words[0] == b"turn" and len(numbers) == 2 and None not in numbers
+    turn = words[0] == b"turn" and len(numbers) == 2 and None not in numbers
     return numbers[1] if turn and numbers[1] >= engines else None
 
 

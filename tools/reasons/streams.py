@@ -5,7 +5,7 @@ from seen import happenings, listing, program
 
 from . import damage, following, groups, kinds
 from .finding import Finding, counted
-from .untraced import AS_PCL, Group, Judge, Reason
+from .untraced import AS_PCL, REASONS, Group, Judge, Reason
 
 READS = "the press reads PCL and PJL"
 DECODE = "Decode it first: base64 -d"
@@ -13,59 +13,153 @@ WHITE = ("has rows there, and none of their dots is black", "Look at what made i
 UNMARKED = ("has nothing there that marks: no row, no rectangle, no text", "Look at what made it")
 BLANK_FRONT = ("asks for a blank front by ESC&a2G", "Send a page for the front, or leave ESC&a2G out")
 HIDDEN = "has dots there that white ones replace"
+WHITE_FILL = "a white fill"    # the name of its reason
 ERASED = Reason("erased", None, None, "Look at the fills (ESC*c1P is a white one), patterns and transparencies: ESC*v#T, ESC*v#N, ESC*v#O",
-                lambda _, some, __: f"{HIDDEN}, the last by {groups.named(some[0])} {groups.place_of(some[0])}",
+                lambda _, group: f"{HIDDEN}, the last by {groups.named(group.first)} {groups.place_of(group.first)}",
                 dots=following.erased_dots)
+
+
+def of_kind(shown, stream):
+    """The finding on what is no stream of a printer, or None."""
+    sent = stream[len(defaults.front_of(stream)):]
+    if not sent:
+        return Finding(None, f"{shown} is empty, and an empty stream prints no sheet", "Look at what made it")
+    kind = kinds.kind_of(sent)
+    if kind and kind != "a print stream":
+        return Finding(None, f"{shown} is {kind}; {READS}", DECODE if kind.endswith(kinds.IN_BASE_64) else AS_PCL)
+    return None
 
 
 def looked_at(shown, stream, front=b"", chosen=program.PROGRAM):
     """The findings on a stream that is read to its end, the weightiest first; and its sides."""
-    sent = stream[len(defaults.front_of(stream)):]
-    if not sent:
-        return [Finding(None, f"{shown} is empty, and an empty stream prints no sheet", "Look at what made it")], []
-    kind = kinds.kind_of(sent)
-    if kind and kind != "a print stream":
-        return [Finding(None, f"{shown} is {kind}; {READS}", DECODE if kind.endswith(kinds.IN_BASE_64) else AS_PCL)], []
-    run = happenings.Run(stream, front=front, together=True, chosen=chosen)
-    judge, sides = Judge(run), listing.sides(run)
-    judge.blank_pages = {page for page, (side, *_) in zip(run.page_of_side(), sides) if not side.count_black()}
-    met = judge.groups(run.happenings)
-    causes = list(blanks(judge, met, sides))
-    found = [Finding(None, f"{shown} {which}: it {cause}" if cause else f"{shown} {which}", advice, page=page, **facts_of(judge, group))
-             for which, cause, advice, group, page in causes]
-    used = {(group.reason, group.key) for _, _, _, group, _ in causes if group}
-    found += [Finding(None, f"{shown} {cause}", group.advised(judge), group.reason.harmless, not group.reason.loses, judge.side_of(group.some[0]),
-                      **facts_of(judge, group))
-              for group in met if (group.reason, group.key) not in used and (cause := group.told(judge))]
-    damaged = damage.found(shown, stream)
-    return [*filter(None, [damaged]), *found, *following.moving(shown, run, judge.side_of), *still_open(shown, run)], sides
+    if (other := of_kind(shown, stream)) is not None:
+        return [other], []
+    seen = Seen(happenings.Run(stream, front=front, chosen=chosen))
+    for happening, met in seen.judge.judged():
+        seen.add(happening, met)
+    return seen.findings(shown), seen.sides.found
+
+
+class OnPage:
+    """What was sent while a page was open: its rows, dots that it lost, the command that marked it last, and the reasons that were met."""
+
+    def __init__(self):
+        self.rows = self.lost = 0
+        self.marking = None
+        self.groups = {}
+
+
+class Seen:
+    """What is seen of a run: the reasons that it met, its sides, and of each page that came out blank what was sent to it. Of the others nothing is
+    held."""
+
+    def __init__(self, run):
+        self.run, self.judge, self.sides = run, Judge(run), listing.Sides(run)
+        self.groups, self.pages = {}, {}
+        self.count = self.recorded = 0
+        self.told = 0          # sides of which it is known whether they are blank
+    def add(self, happening, met):
+        self.count += 1
+        self.recorded += happening.how == "recorded"
+        number, sent = happening.page, happening.sent
+        if (page := self.pages.get(number)) is None:
+            self.settle(number)
+            page = self.pages.setdefault(number, OnPage())
+        page.rows += sent.rows
+        page.lost += sent.right + sent.below
+        if happening.marks and happening.marks[0].page == number:
+            page.marking = happening
+        if met is not None:
+            add_to(page.groups, happening, *met)
+            if met[0].name != WHITE_FILL:
+                add_to(self.groups, happening, *met)
+
+    def settle(self, before):
+        """Lets go of the pages that came out, and are not blank; before the page of this number, or all."""
+        self.sides.go_on()
+        for side, page in zip(self.sides.found[self.told:], self.sides.pages[self.told:]):
+            if before is not None and page >= before:
+                return
+            self.told += 1
+            held = self.pages.get(page)
+            if held is None:
+                continue
+            if side[0].count_black():
+                self.join_white_fills(self.pages.pop(page))
+            elif held.marking:
+                held.marking.marks[0].box()
+        if before is None:
+            for page in set(self.pages) - set(self.sides.pages):
+                self.join_white_fills(self.pages[page])
+
+    def join_white_fills(self, page):
+        """A fill with white is told of a page that is not blank."""
+        for key, group in page.groups.items():
+            if group.reason.name == WHITE_FILL:
+                self.groups.setdefault(key, Group(group.reason, group.key, group.first)).join(group)
+
+    def findings(self, shown):
+        """The findings at the end of the run, the weightiest first."""
+        self.sides.all()
+        self.settle(None)
+        self.met = in_order(self.groups)
+        judge, causes, damaged = self.judge, list(blanks(self)), damage.found(shown, self.run.stream)
+        found = [Finding(None, f"{shown} {which}: it {cause}" if cause else f"{shown} {which}", advice, page=page, **facts_of(judge, group))
+                 for which, cause, advice, group, page in causes]
+        used = {(group.reason, group.key) for _, _, _, group, _ in causes if group}
+        found += [Finding(None, f"{shown} {cause}", group.advised(judge), group.reason.harmless, not group.reason.loses, judge.side_of(group.first),
+                          **facts_of(judge, group))
+                  for group in self.met if (group.reason, group.key) not in used and (cause := group.told(judge))]
+        return [*filter(None, [damaged]), *found, *judge.following.moving.finding(shown, judge.side_of), *still_open(shown, self.run)]
+
+
+def add_to(some, happening, reason, key):
+    place = REASONS.index(reason), key
+    if place not in some:
+        some[place] = Group(reason, key, happening)
+    some[place].add(happening)
+
+
+def in_order(some):
+    """Groups in the order of the table, and of what they begin with."""
+    return [group for _, group in sorted(some.items(), key=lambda item: (item[0][0], item[1].first.placed.offset))]
 
 
 def facts_of(judge, group):
     """Where the command stands that a finding is of, how it is spelled, and how many dots it cost."""
-    return {"place": group.some[0].placed.offset, "command": group.command(), "dots": group.dots()} if group else {}
+    return {"place": group.first.placed.offset, "command": group.command(), "dots": group.dots()} if group else {}
 
 
-def blanks(judge, met, sides):
+def blanks(seen):
     """For each cause of a blank side, and of no sheet: what is blank, the cause, what to do, its group, if it has one, and the first of these sides."""
+    sides, causes = seen.sides.found, {}
     if not sides:
-        yield nothing(judge, met)
+        yield nothing(seen)
         return
-    causes, on_pages = {}, judge.on_pages()
-    resolutions = [group for group in met if group.reason.name == "resolution"]
-    for place, page in enumerate(judge.run.page_of_side()):
+    resolutions = [group for group in seen.met if group.reason.name == "resolution"]
+    for place, page in enumerate(seen.run.page_of_side()):
         if not sides[place][0].count_black():
-            group = cause_of_page(judge, page, on_pages.get(page, []), resolutions)
+            group = cause_of_page(seen.pages.get(page, OnPage()), page, resolutions)
             key = (group.reason, group.key) if isinstance(group, Group) else group
             causes.setdefault(key, []).append((place, group))
     every = len(causes) == 1 and len(next(iter(causes.values()))) == len(sides)
     for some in causes.values():
         which = f"prints {counted(len(sides), 'side')}, and {blank_ones([place for place, _ in some], every)}"
         if isinstance(some[0][1], Group):
-            group = some[0][1]._replace(some=list({id(each): each for _, group in some for each in group.some}.values()))
-            yield which, group.told(judge), group.advised(judge), group, some[0][0] + 1
+            group = together([group for _, group in some])
+            yield which, group.told(seen.judge), group.advised(seen.judge), group, some[0][0] + 1
         else:
             yield which, *some[0][1], None, some[0][0] + 1
+
+
+def together(some):
+    """One group of those that pages met for one thing."""
+    if some[0].reason.name == "resolution":
+        return some[0]      # of all pages
+    whole = Group(some[0].reason, some[0].key, some[0].first)
+    for group in some:
+        whole.join(group)
+    return whole
 
 
 def blank_ones(places, every):
@@ -76,23 +170,21 @@ def blank_ones(places, every):
     return f"side {some} is blank" if len(places) == 1 else f"the sides {some} are blank"
 
 
-def cause_of_page(judge, page, on_page, resolutions):
+def cause_of_page(on_page, page, resolutions):
     """What it is that a blank page comes of: a group of the table, or what is said of it, and what to do. The last resolution before it that is
     none may be of an earlier page."""
     if page is None:
         return BLANK_FRONT
-    if marking := [each for each in on_page if any(mark.page == page for mark in each.marks)]:
-        return Group(ERASED, "erased", marking[-1:])
-    rows, black, lost = (sum(map(count, on_page)) for count in (
-        lambda each: each.sent.rows, lambda each: each.sent.black, lambda each: each.sent.lost()))
-    earlier = [group for group in resolutions if group.some[0].page <= page]
-    for group in earlier[-1:] + judge.groups(on_page):
-        if group.reason.blanks and is_likely(group.reason.name, rows, black, lost):
+    if on_page.marking is not None:
+        return Group(ERASED, "erased", on_page.marking).add(on_page.marking)
+    earlier = [group for group in resolutions if group.first.page <= page]
+    for group in earlier[-1:] + in_order(on_page.groups):
+        if group.reason.blanks and is_likely(group.reason.name, on_page.rows, on_page.lost):
             return group
-    return WHITE if rows else UNMARKED
+    return WHITE if on_page.rows else UNMARKED
 
 
-def is_likely(name, rows, black, lost):
+def is_likely(name, rows, lost):
     """Whether a reason that a page met may have blanked it: a resolution where dots are lost, a value where rows are not all white."""
     if name == "resolution":
         return lost > 0
@@ -101,15 +193,13 @@ def is_likely(name, rows, black, lost):
     return True
 
 
-def nothing(judge, met):
+def nothing(seen):
     """The same where no sheet comes out."""
-    every = judge.run.happenings
-    recorded = sum(happening.how == "recorded" for happening in every)
-    if recorded == len(every) - 1 and recorded:
+    if seen.recorded == seen.count - 1 and seen.recorded:
         return "prints no sheet", "records all in a macro that is not ended", "End it by ESC&f1X, and run it", None, None
-    for group in met:
-        if group.reason.blanks and (cause := group.told(judge)):
-            return "prints no sheet", cause, group.advised(judge), group, None
+    for group in seen.met:
+        if group.reason.blanks and (cause := group.told(seen.judge)):
+            return "prints no sheet", cause, group.advised(seen.judge), group, None
     return ("prints no sheet: nothing marks a page, and no form feed closes one", None,
             "A page comes out where a form feed or a reset closes it; a reset closes a page that has a mark", None, None)
 

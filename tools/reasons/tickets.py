@@ -2,7 +2,7 @@
 
 import difflib
 
-from model import table, ticket
+from model import ticket
 from model.pages import SIZES
 from model.program import spelled
 from model.values import FACTORY_RESOLUTION
@@ -22,7 +22,7 @@ WANTED = {
     "Collate": "true or false",
     "Resolution": "300 or 600",
 }
-KEYS = ticket.keys_up_to(table.BUILT)
+KEYS = ticket.KEYS
 
 
 def ticket_in(shown, data):

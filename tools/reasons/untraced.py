@@ -5,16 +5,17 @@ stand first, the likeliest before the others. `because` is a part of a sentence 
 that met a reason for one thing (their key), behind the name of the stream.
 """
 
-import bisect
+import collections
 import itertools
 from typing import Callable, NamedTuple, Union
 
-from model import commands, defaults, pages, patterns, table
+from model import commands, defaults, pages, patterns, pjl, table
 from model.commands import Broken, Control, Foreign, Param, PjlLine, Text, Uel
 from model.engine import is_reset
 from model.values import POSITIONS_PER_INCH
 from seen import names, remarks
-from seen.sent import letters
+from seen.placing import row_of
+from seen.sent import NOTHING, letters
 
 from . import following, groups, job_lines, named_values
 from .finding import counted
@@ -31,36 +32,65 @@ class Reason(NamedTuple):
     met: Callable                    # of judge and happening: the key of what it is met for, or None
     because: Callable                # of judge and happening
     advice: Union[str, Callable]     # the same
-    told: Callable = groups.sends    # of judge, the happenings of one key, and the reason
+    told: Callable = groups.sends    # of judge and the group of one key
     blanks: bool = False             # whether a page may be blank by it
     harmless: bool = False           # whether no dot depends on it
     loses: bool = False              # whether what was to be marked is not, or not all of it; of others a page is changed
     dots: Callable = lambda happening: happening.sent.lost()
+    name_of: Callable = None         # what the happenings of a group are told apart by
 
     def advised(self, judge, happening):
         return self.advice if isinstance(self.advice, str) else self.advice(judge, happening)
 
 
-class Group(NamedTuple):
-    """The happenings that met one reason for one thing."""
-    reason: Reason
-    key: object
-    some: list
+class Group:
+    """The happenings that met one reason for one thing: the first, and what is counted of all."""
+
+    def __init__(self, reason, key, first):
+        self.reason, self.key, self.first = reason, key, first
+        self.count = self.commands = self.lost = 0
+        self.sent, self.names = NOTHING, {}
+
+    def add(self, happening):
+        self.first = min(self.first, happening, key=place_of)
+        self.count += 1
+        self.commands += happening.placed.count()
+        self.lost += self.reason.dots(happening)
+        self.sent = self.sent.plus(happening.sent)
+        if self.reason.name_of:
+            name = self.reason.name_of(happening)
+            self.names[name] = self.names.get(name, 0) + 1
+        return self
+
+    def join(self, other):
+        """Goes on by those of another group of the same reason and key."""
+        self.first = min(self.first, other.first, key=place_of)
+        self.count, self.commands, self.lost = self.count + other.count, self.commands + other.commands, self.lost + other.lost
+        self.sent = self.sent.plus(other.sent)
+        for name, count in other.names.items():
+            self.names[name] = self.names.get(name, 0) + count
 
     def told(self, judge):
         """A sentence behind the name of the stream, or None for nothing."""
-        return self.reason.told(judge, self.some, self.reason)
+        return self.reason.told(judge, self)
+
+    def because(self, judge):
+        return self.reason.because(judge, self.first)
 
     def advised(self, judge):
-        return self.reason.advised(judge, self.some[0])
+        return self.reason.advised(judge, self.first)
 
     def command(self):
         """As it is spelled; None for what is no command of PCL."""
-        return spelled(self.some[0]) or None
+        return spelled(self.first) or None
 
     def dots(self):
         """How many black dots they lose, erase, or repeat; None where none are."""
-        return sum(self.reason.dots(each) for each in self.some) or None
+        return self.lost or None
+
+
+def place_of(happening):
+    return happening.placed.offset
 
 
 def has_no_row(happening, kind_of):
@@ -106,10 +136,7 @@ def resolution_advice(_, happening):
     if number(happening) not in table.RASTER_RESOLUTIONS[FINEST]:
         return f"Have the driver send {RESOLUTIONS[happening.before['resolution']]} dots per inch (Ghostscript: -r300)"
     word = f"RESOLUTION={FINEST}"
-    if defaults.BUILT:
-        return f"This printer was not told {FINEST}: say {defaults.OPTION} {word}, or have the driver send 300 (Ghostscript: -r300)"
-    return (f"This printer was not told {FINEST}: put the line @PJL SET {word} before it, or have the driver send 300 (Ghostscript: -r300); "
-            f"tools/explain, tools/show and tools/pictures take {defaults.OPTION} {word}")
+    return f"This printer was not told {FINEST}: say {defaults.OPTION} {word}, or have the driver send 300 (Ghostscript: -r300)"
 
 
 def other_method(_, happening):
@@ -271,7 +298,7 @@ def is_other(happening):
 # What breaks, and fronts
 
 def is_cut(judge, happening):
-    return "cut" if has_no_row(happening, Broken) and judge.is_last(happening) and cut_data(happening) else None
+    return "cut" if has_no_row(happening, Broken) and judge.is_last() and cut_data(happening) else None
 
 
 def cut_data(happening):
@@ -285,11 +312,15 @@ def because_of_cut(_, happening):
 
 
 def loses_its_back(judge, happening):
-    """A front that a command of the same job sends out, and no end of a job or page side selection that asks for it."""
+    """A front that a command of the same job sends out, and no end of a job or page side selection that asks for it; where pages follow."""
     if not happening.before["duplex"] or not happening.sheets or happening.how != "row":
         return None
-    within = letters(happening.placed.command) in ("&lA", "&lS") or is_reset(happening.placed.command) and not judge.ends_a_job(happening)
-    return "fronts" if within and judge.goes_out_alone(happening) and judge.pages_follow(happening) else None
+    if place_of(happening) in judge.following.fronts:
+        return "fronts"
+    within = letters(happening.placed.command) in ("&lA", "&lS") or is_reset(happening.placed.command) and not judge.ends_a_job()
+    if within and judge.goes_out_alone(happening):
+        judge.following.ask_for_pages(happening)
+    return None
 
 
 # Settings
@@ -302,13 +333,12 @@ def registration(_, happening):
             f"{' of' if key == '&lU' else ''} where a printer puts it")
 
 
+REGISTERED = ("&lU", "&lZ")
+
+
 def registration_advice(judge, _):
     """How Ghostscript moves a picture by what the first commands of each edge ask for, in points."""
-    points = {"&lU": 0, "&lZ": 0}
-    for each in reversed(judge.run.happenings):
-        if has_no_row(each, Param) and letters(each.placed.command) in points:
-            points[letters(each.placed.command)] = each.placed.command.value().tenthousandths / 100000
-    offset = " ".join(f"{value:g}" for value in points.values())
+    offset = " ".join(f"{judge.registered.get(key, 0) / 100000:g}" for key in REGISTERED)
     return f"Have the driver move its picture by as much itself (Ghostscript: -c '<</PageOffset[{offset}]>>setpagedevice' -f FILE), or send neither"
 
 
@@ -341,6 +371,10 @@ def because_of_margin(_, happening):
     dots = (after - before) * happening.resolution / POSITIONS_PER_INCH
     return (f"a change of perforation skip sets the top margin to half an inch, so what follows stands {abs(dots):g} dots "
             f"{'below' if dots > 0 else 'above'} where the margin before it put it")
+
+
+def data_size(happening):
+    return len(happening.placed.command.data)
 
 
 FONTS = {"&kS", "&dD", "&d@", "*cD", "*cE", "*cF", "*cR", "*cS", "&tP", "&nW", "&sC", "(X", ")X", "(@", ")@", "(fW"}
@@ -378,10 +412,10 @@ def unknown(_, happening):
 
 
 REASONS = [
-    Reason("another language", lambda judge, each: judge.language(each) if has_no_row(each, Foreign) else None,
+    Reason("another language", lambda judge, each: judge.language if has_no_row(each, Foreign) else None,
            lambda *_: "skipped, up to the next universal exit", AS_PCL, groups.language, True, loses=True),
     Reason("resolution", other_resolution, because_of_resolution, resolution_advice, blanks=True),
-    Reason("planes", colour, because_of_colour, BLACK, groups.first_of_many, True, loses=True),
+    Reason("planes", colour, because_of_colour, BLACK, groups.first_of_many, True, loses=True, name_of=groups.of_a_kind),
     Reason("method", other_method, because_of_method, "Have the driver compress by one of these: " + LASER, blanks=True),
     Reason("dots beside the page", loses, because_of_loss,
            "Look at the resolution of its rows, where they begin, and at the page size: what is past the edge of the page, or of a row, is dropped",
@@ -392,13 +426,13 @@ REASONS = [
     Reason("HP-GL/2", lambda _, each: "plot" if each.how == "HP-GL/2" else None, lambda *_: "HP-GL/2 is on",
            "Send it as raster graphics; ESC%0A leaves HP-GL/2", groups.plot, True, loses=True),
     Reason("transparent data", of_letters({"&pX"}, lambda each: bool(each.placed.command.data)), lambda *_: "text leaves no marks",
-           "Send it as raster graphics; the shapes of a printer's fonts are its maker's", following.transparent, True, loses=True),
-    Reason("a macro that is not ended", lambda judge, each: each.placed.offset if id(each) in judge.following.unended else None,
+           "Send it as raster graphics; the shapes of a printer's fonts are its maker's", following.transparent, True, loses=True, name_of=data_size),
+    Reason("a macro that is not ended", lambda judge, each: place_of(each) if place_of(each) in judge.following.unended else None,
            following.because_unended, "End it by ESC&f1X, and run it", blanks=True, loses=True),
-    Reason("an overlay of nothing", lambda judge, each: each.before["macro_id"] if id(each) in judge.following.idle_overlays else None,
+    Reason("an overlay of nothing", lambda judge, each: each.before["macro_id"] if place_of(each) in judge.following.idle_overlays else None,
            lambda _, each: f"there is no macro {each.before['macro_id']} where the page closes, or it is empty, so nothing is laid over it",
            "Record the macro by ESC&f0X and ESC&f1X before, in the same job", blanks=True, loses=True),
-    Reason("a row that repeats", lambda judge, each: "rows" if id(each) in judge.following.repeated else None,
+    Reason("a row that repeats", lambda judge, each: "rows" if place_of(each) in judge.following.repeated else None,
            lambda *_: "a row of no bytes by method 3 repeats the row above it",
            "Where white rows are meant, have the driver send ESC*b#Y, or another method (Netpbm: pbmtolj without -delta)", following.repeats,
            dots=lambda each: each.sent.again),
@@ -418,12 +452,12 @@ REASONS = [
     Reason("time", wrong_time, because_of_time, "Have the driver send it where it is taken, or leave it out", blanks=True),
     Reason("a front without its back", loses_its_back, lambda *_: "the front before it goes out alone, and has no back",
            "Send this before the first page of a leaf, or not at all within the job", groups.fronts),
-    Reason("registration", of_letters({"&lU", "&lZ"}, moves, False), registration, registration_advice),
+    Reason("registration", of_letters(set(REGISTERED), moves, False), registration, registration_advice),
     Reason("top margin", margin_is_put_back, because_of_margin, "Have the driver send ESC&l#L before ESC&l#E"),
-    Reason("margin that is put back", lambda judge, each: spelled(each) if id(each) in judge.following.put_back else None,
+    Reason("margin that is put back", lambda judge, each: spelled(each) if place_of(each) in judge.following.put_back else None,
            following.because_put_back, "Have the driver send ESC&l#A and ESC&l#O before ESC&l#E"),
     Reason("scaling", of_letters({"*tH", "*tV"}), lambda *_: "rows are not scaled; they have the size of their resolution",
-           "Have the driver send a raster resolution that fits", groups.first_of_many),
+           "Have the driver send a raster resolution that fits", groups.first_of_many, name_of=groups.of_a_kind),
     Reason("direction", of_letters({"&aP"}, moves, False), lambda *_: "the print direction is not carried out", "Turn the page: ESC&l#O"),
     Reason("nothing that is asked for", of_letters(LEFT_OUT, lambda each: not moves(each)), lambda *_: "this press does not carry it out, and at 0 it asks for nothing",
            "", groups.silent, harmless=True),
@@ -432,20 +466,21 @@ REASONS = [
     Reason("presentation", turns_rows, lambda *_: "rows turn with the page here (mode 0), so the picture stands turned by a quarter",
            "Have the driver send ESC*r0F and rows in the direction of the page, or portrait"),
     Reason("size by dots", of_letters({"&fI", "&fJ"}), lambda *_: "a page has one of six sizes, and none by its width and length",
-           f"Have the driver send ESC&l#A: {named_values.SIZES}", groups.first_of_many),
-    Reason("PJL variable", job_lines.other_variable, job_lines.because_of_variable, job_lines.VARIABLES, groups.variables, harmless=True),
+           f"Have the driver send ESC&l#A: {named_values.SIZES}", groups.first_of_many, name_of=groups.of_a_kind),
+    Reason("PJL variable", job_lines.other_variable, job_lines.because_of_variable, job_lines.VARIABLES, groups.variables, harmless=True, name_of=groups.job_name),
     Reason("PJL value", job_lines.other_value, job_lines.because_of_value, job_lines.value_advice, groups.plain),
     Reason("PJL command", job_lines.other_word, job_lines.because_of_word, job_lines.WORDS, groups.plain, harmless=True),
-    Reason("fonts", font, lambda *_: "fonts are left out, and text leaves no marks", "Send text as raster graphics", groups.first_of_many),
+    Reason("fonts", font, lambda *_: "fonts are left out, and text leaves no marks", "Send text as raster graphics", groups.first_of_many, name_of=groups.of_a_kind),
     Reason("steps of text", control(BACKSPACE, TAB), lambda *_: "it moves the cursor of text, which is left out, and none here",
-           "Have the driver move by ESC*p#X", groups.first_of_many),
-    Reason("control", control(), lambda *_: "it marks nothing, and moves no dot", "Nothing is to be done", groups.first_of_many, harmless=True),
-    Reason("colours", of_letters(COLOURS), lambda *_: "this press has black alone", BLACK, groups.first_of_many),
-    Reason("handling", of_letters(HANDLING), lambda *_: "this press does not carry it out, and it moves no dot", "Nothing is to be done", groups.first_of_many,
+           "Have the driver move by ESC*p#X", groups.first_of_many, name_of=groups.of_a_kind),
+    Reason("control", control(), lambda *_: "it marks nothing, and moves no dot", "Nothing is to be done", groups.first_of_many, name_of=groups.of_a_kind, harmless=True),
+    Reason("colours", of_letters(COLOURS), lambda *_: "this press has black alone", BLACK, groups.first_of_many, name_of=groups.of_a_kind),
+    Reason("handling", of_letters(HANDLING), lambda *_: "this press does not carry it out, and it moves no dot", "Nothing is to be done", groups.first_of_many, name_of=groups.of_a_kind,
            harmless=True),
-    Reason("unknown", unknown, lambda *_: "ignored", "tools/explain says where each stands", groups.first_of_many),
+    Reason("unknown", unknown, lambda *_: "ignored", "tools/explain says where each stands", groups.first_of_many, name_of=groups.of_a_kind),
 ]
 BY_NAME = {reason.name: reason for reason in REASONS}
+LATE = [BY_NAME[name] for name in following.LATE]    # those that what follows decides
 
 
 def is_plain(happening):
@@ -462,22 +497,43 @@ class Judge:
 
     def __init__(self, run):
         self.run = run
-        self.found, self.sides = {}, []
-        self.languages = job_lines.languages(run)
-        self.open_pages, self.blank_pages = {}, set()
+        self.language, self.left_until = None, 0    # that a line entered, and where data that was taken ends
+        self.registered = {}                        # the first value of each edge for which a registration asks
         self.following = following.Following(run)
-        self.left_over = [self.rest_of_cost(each) for each in run.happenings if takes_data(self, each)]
+        self.next = None                            # what stands behind the happening that is judged
 
-    def reason_of(self, happening):
-        """A reason and its key, or None; it is asked for again."""
-        place = id(happening)
-        if is_plain(happening):
-            return None
-        if place not in self.found:
-            self.found[place] = self.find_reason(happening)
-        return self.found[place]
+    def judged(self, in_order=False):
+        """Each happening with its reason and key, or None, once all that decides them was seen: those that wait for it come later, but `in_order`, where
+        what follows waits, too."""
+        waiting, held, before = collections.deque(), self.following.held, None
+        for self.next in itertools.chain(self.run, [None]):
+            if before is not None:
+                met = None if is_plain(before) else self.first_met(before)
+                self.following.go_on(before)
+                if waiting or held:
+                    waiting.append((before, met))
+                    yield from self.decided(waiting, in_order)
+                else:
+                    yield before, met
+            before = self.next
+        self.following.end()
+        yield from self.decided(waiting, in_order)
 
-    def find_reason(self, happening):
+    def decided(self, waiting, in_order):
+        """Those of which all is known; they wait no longer."""
+        for _ in range(len(waiting)):
+            happening, met = waiting[0]
+            if place_of(happening) not in self.following.held:
+                waiting.popleft()
+                yield happening, self.late_met(happening, met)
+            elif in_order:
+                return
+            else:
+                waiting.rotate(-1)
+
+    def first_met(self, happening):
+        """The first reason of the table that is met by what is known when the next command is seen."""
+        self.see(happening)
         if happening.how == "recorded":
             return None
         for reason in REASONS:
@@ -486,48 +542,31 @@ class Judge:
                 return reason, key
         return None
 
-    def because(self, happening):
-        """Why it leaves no trace, or less of one than was meant; empty where it does what it says."""
-        found = self.reason_of(happening)
-        return found[0].because(self, happening) if found else ""
+    def late_met(self, happening, met):
+        """The same, where one that stands before it is met by what follows."""
+        if place_of(happening) in self.following.late:
+            for reason in LATE:
+                if met is not None and REASONS.index(met[0]) < REASONS.index(reason):
+                    break
+                if (key := reason.met(self, happening)) is not None:
+                    return reason, key
+        return met
 
-    def groups(self, happenings):
-        """Those that met a reason, by reason and key, in the order of the table."""
-        found = {}
-        for happening in happenings:
-            if (met := self.reason_of(happening)) is not None:
-                found.setdefault((REASONS.index(met[0]), met[1]), []).append(happening)
-        ordered = sorted(found.items(), key=lambda item: (item[0][0], item[1][0].placed.offset))
-        return [Group(REASONS[place], key, some) for (place, key), some in ordered]
-
-    def on_pages(self):
-        """For each page, in the order in which they close, the happenings while it is open."""
-        some, open_page = {}, 0
-        for happening in self.run.happenings:
-            some.setdefault(open_page, []).append(happening)
-            open_page = happening.page
-        return some
-
-    def side_of(self, happening):
-        """The number of the side on which a happening is met; None where it does not come out."""
-        if not self.open_pages:
-            self.open_pages = {id(each): page for page, some in self.on_pages().items() for each in some}
-            self.sides = self.run.side_of_page()
-        page = self.open_pages[id(happening)]
-        place = self.sides[page] if page < len(self.sides) else None
-        return None if place is None else place + 1
-
-    def language(self, happening):
-        """The language that the last line before it entered."""
-        return self.languages[bisect.bisect_left(self.languages, (happening.placed.offset,)) - 1][1]
+    def see(self, happening):
+        """Notes what is asked for of the commands behind it."""
+        command = happening.placed.command
+        if isinstance(command, PjlLine):
+            language = pjl.language_of_line(command.line)
+            self.language = job_lines.shown(language) if language else self.language
+        elif isinstance(command, Param) and happening.how == "no row":
+            if takes_data(self, happening):
+                self.left_until = max(self.left_until, self.read_over(happening)[1])
+            if letters(command) in REGISTERED:
+                self.registered.setdefault(letters(command), command.value().tenthousandths)
 
     def cost_of(self, happening):
         """The commands that begin in the data that was taken, as they would be read there."""
         return self.read_over(happening)[0]
-
-    def rest_of_cost(self, happening):
-        placed = happening.placed
-        return range(placed.offset + placed.length, self.read_over(happening)[1])
 
     def read_over(self, happening):
         placed, stream = happening.placed, self.run.stream
@@ -539,21 +578,23 @@ class Judge:
         return found, max(end, place)
 
     def is_left_over(self, happening):
-        return any(happening.placed.offset in some for some in self.left_over)
+        return place_of(happening) < self.left_until
 
-    def is_last(self, happening):
-        return happening is self.run.happenings[-1]
+    def is_last(self):
+        return self.next is None
 
-    def ends_a_job(self, happening):
+    def ends_a_job(self):
         """Whether a universal exit comes next."""
-        following = itertools.dropwhile(lambda each: each is not happening, self.run.happenings)
-        return any(isinstance(each.placed.command, Uel) for each in itertools.islice(following, 1, 2))
+        return self.next is not None and isinstance(self.next.placed.command, Uel)
 
     def goes_out_alone(self, happening):
         """Whether a sheet without a back goes out by it."""
         numbers = {number for number, _ in happening.sheets}
-        return any(sheet.back is None for sheet in self.run.leaves.sheets if sheet.number in numbers)
+        behind = itertools.takewhile(lambda sheet: sheet.number >= min(numbers), reversed(self.run.leaves.sheets))
+        return any(sheet.back is None for sheet in behind if sheet.number in numbers)
 
-    def pages_follow(self, happening):
-        """Whether another sheet goes out behind it."""
-        return self.run.leaves.sheets[-1].number > happening.sheets[-1][0]
+    def side_of(self, happening):
+        """The number of the side on which a happening is met; None where it does not come out. It is asked at the end."""
+        sides = self.run.side_of_page()
+        place = sides[happening.page] if happening.page < len(sides) else None
+        return None if place is None else place + 1

@@ -3,7 +3,7 @@
 import difflib
 from typing import NamedTuple
 
-from model import defaults, pjl, table
+from model import defaults, pjl
 from model.press_lines import number_of
 
 from .finding import REFUSED_WORDS, Found
@@ -20,11 +20,11 @@ USAGES = {
     "press": [],
 }
 LISTS = ("--list", "--sums")
-OPTIONS = {"print": "--list] [--sums"} | ({"press": "--engines N"} if table.includes(table.BUILT, "engines") else {})
+OPTIONS = {"print": "--list] [--sums", "press": "--engines N"}
 HELP = ("-h", "--help", "help", "-V", "--version")
 
 
-WITH_DEFAULTS = ("print", "debug", "trace", "page") if defaults.BUILT else ()
+WITH_DEFAULTS = ("print", "debug", "trace", "page")
 
 
 class Request(NamedTuple):

@@ -12,6 +12,7 @@ const {Browser} = require("./browser.js");
 const [,, TOOLS, ROOT, PICTURES] = process.argv;
 const FOLDER = mkdtempSync(join(tmpdir(), "shown-"));
 const MACRO_OF_TWO_PAGES = "\x1bE\x1b&f1y0X\x1b*p100x100Y\x1b*c300a60b0P\x0c\x1b*p100x600Y\x1b*c0P\x1b&f1X\x1b*p0X\x1b&f2X\x0c";
+const BLANK = "\x1b*p2300X\x1b*t600R\x1b*r1A\x1b*b120W" + "\0".repeat(100) + "\xff".repeat(20) + "\x1b*rC\x0c";
 let looked = 0;
 
 function same(found, wanted, what) {
@@ -207,6 +208,69 @@ async function reached(browser, path) {
   await browser.dark(false);
 }
 
+// Why a page is blank stands on top: it leads to the command, whose row says that its value is none, and to the place on the page.
+async function causes(browser, path) {
+  await browser.open(path);
+  same(await browser.value("[at('findings').hidden, at('findings').open, data.findings.length]"), [false, true, 2], "what is found is shown");
+  same(await browser.value("at('causes').firstChild.textContent.startsWith('Prints 1 side, and it is blank: it sends ESC*t600R at byte 8')"), true, "the cause of the blank page first");
+  await browser.click(...await middleOf(browser, "at('causes').querySelector('button')"));
+  await browser.until("state.here === 1");
+  await browser.until("rowsOfList.get(1).querySelector('em').textContent === 'no such value'");
+  same(await browser.value("rowsOfList.get(1).classList.contains('wrong') && rowsOfList.get(1).querySelector('b').textContent"), "ESC*t600R", "the row is flagged, in HP's spelling");
+  await browser.click(...await middleOf(browser, "at('causes').children[1].querySelector('button')"));
+  await browser.until("picture.ring && picture.ring[0] === 2375");
+  looked++;   // and the place on the page is pointed out
+  await browser.click(...await middleOf(browser, "at('causes').querySelector('[data-to=side]')"));
+  await browser.until("state.side === 0");
+  looked++;   // the side, too
+  await browser.value("at('which').value = 'wrong', at('which').dispatchEvent(new Event('change'))");
+  await browser.until("state.shown.length === 2");
+  looked++;   // those that something is found of
+  await browser.value("at('which').value = 'all', at('which').dispatchEvent(new Event('change'))");
+  for (const [width, height] of [[390, 844], [1024, 768], [1440, 900]]) {
+    await browser.size(width, height);
+    for (const row of [1, 3]) {
+      await browser.value(`goToRow(${row})`);
+      await settled(browser);
+      same(await browser.value("at('told').clientHeight % parseFloat(getComputedStyle(at('told')).lineHeight)"), 0, "the box cuts no line at " + width);
+      same(await browser.value("at('command').getBoundingClientRect().right <= innerWidth && at('middle').scrollWidth <= innerWidth"), true, "and stands in the window of " + width);
+    }
+    await browser.value("new Promise(resolve => requestAnimationFrame(() => requestAnimationFrame(resolve)))");
+    same(await browser.value("[...rowsOfList.values()].every(row => row.lastChild.scrollHeight <= row.lastChild.clientHeight || innerWidth > 400)"), true, "effects are whole at " + width);
+    await browser.picture(join(PICTURES, `blank-${width}.png`));
+  }
+  await browser.size(1024, 768);
+  same(await browser.value("at('middle').clientWidth * at('middle').clientHeight > innerWidth * innerHeight / 2"), true, "the page has the larger half");
+  await browser.size(1400, 900);
+  await browser.value("goToRow(0)");
+  await browser.key("c");
+  await browser.until("[...at('fields').rows].filter(row => row.offsetHeight).map(row => row.cells[0].textContent).join() === 'x'");
+  looked++;   // what changed alone
+  await browser.key("c");
+}
+
+// Keys and buttons make it larger about the mark, or about the pointer; a drag moves the page, and chooses no command.
+async function moves(browser, path) {
+  await browser.open(path);
+  await browser.value("goTo(film.pages[0].last - 3)");
+  await settled(browser);
+  await browser.mouse("mouseMoved", 5, 5);
+  for (let time = 0; time < 5; time++) await browser.click(...await middleOf(browser, "at('more')"));
+  const at1 = await browser.value("(() => { const [x, y] = markDot(); return [x * scale() - view.scrollLeft, y * scale() - view.scrollTop, view.clientWidth, view.clientHeight]; })()");
+  same(at1[0] > 0 && at1[0] < at1[2] && at1[1] > 0 && at1[1] < at1[3], true, "the mark is seen");
+  const [x, y] = await middleOf(browser, "at('view')"), dot = `(() => { const box = paper.getBoundingClientRect(); return [(${x} - box.left + view.scrollLeft) / scale(), (${y} - box.top + view.scrollTop) / scale()].map(Math.round); })()`;
+  await browser.mouse("mouseMoved", x, y);
+  const under = await browser.value(dot);
+  await browser.key("+");
+  const now = await browser.value(dot);
+  same(Math.abs(now[0] - under[0]) <= 1 && Math.abs(now[1] - under[1]) <= 1, true, "the dot under the pointer stays there");
+  const entry = await browser.value("state.entry"), [left, top] = await browser.value("[view.scrollLeft, view.scrollTop]");
+  await browser.mouse("mousePressed", x, y, {buttons: 1});
+  for (const by of [10, 25, 40]) await browser.mouse("mouseMoved", x - by, y - by / 2, {buttons: 1});
+  await browser.mouse("mouseReleased", x - 40, y - 20);
+  same(await browser.value("[Math.round(view.scrollLeft), Math.round(view.scrollTop), state.entry]"), [Math.round(left) + 40, Math.round(top) + 20, entry], "a drag moves the page");
+}
+
 async function large(browser) {
   const many = shown("many", "\x1b*p1X\x1b*p2X".repeat(500000));
   await browser.open(many);
@@ -258,6 +322,8 @@ async function main() {
     await zooms(browser, letter);
     await finds(browser, shown("streams/raster-by-each-method.pcl", null));
     await reached(browser, overlay);
+    await causes(browser, shown("blank", BLANK));
+    await moves(browser, letter);
     await pictures(browser);
     await large(browser);
     same(browser.errors, [], "no error was told");

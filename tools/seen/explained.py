@@ -1,6 +1,5 @@
 """The commands of a stream as lines of text: each is one row, and so are bytes of text, of another language or of HP-GL/2 that stand together."""
 
-import itertools
 from typing import NamedTuple
 
 from model.asm import line_of_command
@@ -9,15 +8,20 @@ from model.commands import Broken, Foreign, Text, command_bytes
 from reasons.untraced import Judge
 
 from . import remarks
-from .happenings import with_pattern_ids
 
 
 class Row(NamedTuple):
     offset: int
     end: int            # behind its last byte
     text: str           # a line of assembly text
-    remark: str         # where it stands, what it is and does
+    told: remarks.Remark   # where it stands, what it is and does
     happenings: list
+    met: tuple          # the reason why it leaves no trace, or less of one than was meant, and its key; or None
+    because: str        # what that reason says
+
+    @property
+    def remark(self):
+        return self.told.text()
 
 
 def run_of(happening, because):
@@ -34,26 +38,39 @@ def bytes_of(placed, stream):
     return stream[placed.offset:placed.offset + placed.length] if placed.count() > 1 else command_bytes(placed.command)
 
 
-def rows(run):
-    """The rows of a run, without the exit that is added at the end."""
-    judge = Judge(run)
-    every = ((happening, pattern_id, judge.because(happening)) for happening, pattern_id in with_pattern_ids(run.happenings))
-    for key, some in itertools.groupby(every, lambda each: run_of(each[0], each[2])):
-        some = list(some)
-        if key is not None and (len(some) > 1 or some[0][0].placed.count() > 1):
-            together = [happening for happening, _, _ in some]
-            data = b"".join(bytes_of(happening.placed, run.stream) for happening in together)
-            yield row_of(together, line_of_command(Broken(data)), remarks.of_run(together, data, some[0][2]))
-            continue
-        for happening, pattern_id, because in some:
-            yield row_of([happening], line_of_command(happening.placed.command), remarks.remark(happening, pattern_id, because))
+def rows(run, judge=None, see=None):
+    """The rows of a run, one after another, without the exit that is added at the end. `see` is handed each happening with the reason that it met."""
+    judge, some, key, because, met = judge or Judge(run), [], None, "", None
+    for happening, each in judge.judged(in_order=True):
+        if see:
+            see(happening, each)
+        why = each[0].because(judge, happening) if each else ""
+        own = run_of(happening, why)
+        if some and (own is None or own != key):
+            yield row_of(run, some, because, met)
+            some = []
+        if own is None:
+            yield row_of(run, [happening], why, each)
+        else:
+            key, because, met = (key, because, met) if some else (own, why, each)
+            some.append(happening)
+    if some:
+        yield row_of(run, some, because, met)
 
 
-def row_of(some, text, remark):
-    last = some[-1].placed
-    return Row(some[0].placed.offset, last.offset + last.length, text, remark, some)
+def row_of(run, some, because, met):
+    first, last = some[0], some[-1].placed
+    if len(some) > 1 or first.placed.count() > 1:
+        data = b"".join(bytes_of(happening.placed, run.stream) for happening in some)
+        text, told = line_of_command(Broken(data)), remarks.of_run(some, data, because)
+    else:
+        text, told = line_of_command(first.placed.command), remarks.remark(first, first.before["pattern_id"], because)
+    return Row(first.placed.offset, last.offset + last.length, text, told, some, met, because)
+
+
+END = "the end, where the press adds a universal exit"
 
 
 def of_end(run):
     """The remark on the exit that the press adds."""
-    return f"at {len(run.stream)}, the end, where the press adds a universal exit: {remarks.effect_of(run.end)}"
+    return f"at {len(run.stream)}, {END}: {remarks.effect_of(run.end)}"

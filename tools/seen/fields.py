@@ -1,7 +1,11 @@
 """The fields of a stream's state behind a step, by the names that the tools use, from the `view` of the lines of a trace."""
 
+import functools
+
 from model import pages
 from model.values import POSITIONS_PER_INCH
+
+from . import program, traced
 
 SIZES = {1: "Executive", 2: "Letter", 3: "Legal", 6: "Ledger", 26: "A4", 27: "A3"}
 BINDINGS = {1: "LONGEDGE", 2: "SHORTEDGE"}
@@ -70,6 +74,15 @@ class Fields:
         self.now = Now(base, kept.setdefault(x, x), kept.setdefault(y, y), line["sheets"], row_count)
         return self.now
 
+    def go_on_row(self, x, y, sheets, count):
+        """The fields behind a row within raster graphics, which changes the cursor and the number of rows alone."""
+        if count is not None:
+            count = int(count)
+            self.view["raster"] = {**self.view["raster"], "rows": count}
+        kept = self.places
+        self.now = Now(self.now.base, kept.setdefault(x, x), kept.setdefault(y, y), sheets, self.now.row_count if count is None else count)
+        return self.now
+
 
 def named(told, view):
     """The fields of the objects in which something is told, by their names."""
@@ -95,8 +108,16 @@ OTHERS = {
 
 def changes(before, after):
     """Name, value before and value after of each field that is another."""
-    some = ORDER if before.base is not after.base else OWN
-    return tuple((name, before[name], after[name]) for name in some if before[name] != after[name])
+    if before.base is not after.base:
+        return tuple((name, before[name], after[name]) for name in ORDER if before[name] != after[name])
+    return tuple((name, getattr(before, name), getattr(after, name)) for name in OWN if getattr(before, name) != getattr(after, name))
+
+
+def changes_of_row(before, after):
+    """The same behind a row within raster graphics."""
+    if before.x == after.x and before.total == after.total and before.y != after.y and before.row_count != after.row_count:
+        return ("y", before.y, after.y), ("row_count", before.row_count, after.row_count)
+    return changes(before, after)
 
 
 class State:
@@ -114,8 +135,7 @@ class State:
         return pages.logical_page(self.size, self.orientation)[1]
 
 
-def power_on():
-    """The fields before the first command."""
-    from model.trace_lines import Teller, view_of
-    state = Teller(frozenset()).engine.state
-    return {"x": state.x, "y": state.y, "sheets": 0, "view": view_of(state)}
+@functools.cache
+def power_on(chosen=program.PROGRAM):
+    """The fields before the first command: those behind the exit of an empty stream."""
+    return next(traced.lines(b"", chosen))

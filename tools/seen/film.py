@@ -1,19 +1,20 @@
 """A trace to walk in, forwards and back: which command each step takes, and fields and page behind any number of steps.
 
-The lines stand in a file, and the fields and the page are kept now and then, so that those of any step are made from a few lines.
+It reads the lines as far as a step is looked at. They stand in a file, and the fields and the page are kept now and then, so that those of any
+step are made from a few lines.
 """
 
 import array
 import json
 import tempfile
 
-from model import commands, table
+from model import commands
 
 from . import program, traced
-from .bodies import Follower, Placed
+from .bodies import Follower
 from .fields import Fields, power_on
-from .happenings import placed_commands
 from .patches import Open
+from .placing import Placer, row_of
 from .sent import letters
 
 MOST_LINES, MOST_BYTES = 256, 1_000_000   # between two places that are kept
@@ -47,26 +48,25 @@ class Film:
         self.lines, self.ends = tempfile.TemporaryFile(), array.array("Q", [0])
         self.taken, self.stacks, self.depths, self.starts = [], [], array.array("B", [0]), []
         self.flags, self.versions = array.array("B", [0]), array.array("L", [0])   # and how often the page changed by then
-        self.kept = []
-        self.read(front + stream, front, chosen)
+        self.kept, self.is_whole = [], False
+        self.reading = self.read(front + stream, chosen)
 
-    def read(self, whole, front, chosen):
-        """Goes through the lines once."""
-        fields, page = Fields(), Open()
-        follower = Follower(fields.go_on(power_on()), table.row_of)
-        every = iter([*placed_commands(front), *(placed._replace(offset=placed.offset + self.shift) for placed in placed_commands(self.stream))])
-        end = Placed(len(whole), 0, commands.Uel())
+    def read(self, whole, chosen):
+        """Goes through the lines once, step by step."""
+        fields, page, placer = Fields(), Open(), Placer(whole)
+        follower = Follower(fields.go_on(power_on(chosen)), row_of)
         placed, changed = None, True
         self.keep(fields, page, changed)
         for text in traced.texts(whole, chosen):
             line = json.loads(text)
             if not follower.bodies:
-                placed = next(every, end)
+                placed = placer.placed(line)
                 self.starts.append(len(self.taken))
             step = follower.go_on(line, placed, fields.go_on(line))
             page.go_on(line)
             self.note(line, step)
             changed = changed or self.versions[-1] != self.versions[-2]
+            self.lines.seek(self.ends[-1])
             self.lines.write(text)
             self.ends.append(self.ends[-1] + len(text))
             self.depths.append(line["depth"])
@@ -75,6 +75,17 @@ class Film:
             if len(self.taken) - self.kept[-1].count >= MOST_LINES or self.ends[-1] - self.ends[self.kept[-1].count] >= MOST_BYTES:
                 self.keep(fields, page, changed)
                 changed = False
+            yield
+
+    def has(self, count):
+        """Whether there are so many steps; the lines are read as far as that."""
+        while len(self.taken) < count and not self.is_whole:
+            self.is_whole = next(self.reading, self) is self
+        return len(self.taken) >= count
+
+    def up_to(self, count):
+        """So many steps, or all where there are fewer."""
+        return count if self.has(count) else len(self.taken)
 
     def note(self, line, step):
         """Notes what went out in a step, whether it did nothing, and how often the page changed by then."""
@@ -90,7 +101,9 @@ class Film:
         self.kept.append(Kept(len(self.taken), fields, held))
 
     def __len__(self):
-        """How many steps there are."""
+        """How many steps there are; for that all lines are read."""
+        while not self.is_whole:
+            self.has(len(self.taken) + 1)
         return len(self.taken)
 
     def line(self, count):
@@ -101,6 +114,7 @@ class Film:
 
     def from_kept(self, count):
         """The last place that is kept before so many steps, and the lines from there on."""
+        self.has(max(1, count))
         low, high = 0, len(self.kept)
         while high - low > 1:
             middle = (low + high) // 2
@@ -133,20 +147,37 @@ class Film:
             page.go_on(line)
         return page.page
 
+    def dot(self, count, x, y):
+        """Whether a dot of the open page is black behind so many steps; None where it is on no page."""
+        page = self.page(count)
+        if page is None or not (0 <= x < page.width and 0 <= y < page.height):
+            return None
+        return bool(page.rows[y][x // 8] >> 7 - x % 8 & 1)
+
+    def changes_dot(self, count, x, y):
+        """Whether a step changes a dot; that a page goes out changes none of it."""
+        if not self.has(count) or self.versions[count] == self.versions[count - 1]:
+            return False
+        patch = self.line(count).get("page")
+        if not patch or not (patch["x"] <= x < patch["x"] + patch["width"] and patch["y"] <= y < patch["y"] + patch["height"]):
+            return False
+        return bool(self.dot(count, x, y)) != bool(self.dot(count - 1, x, y))
+
     def depth(self, count):
+        self.has(count)
         return self.depths[count]
 
     def next(self, count):
         """The command that the step behind so many takes; None at the end."""
-        return self.taken[count] if count < len(self) else None
+        return self.taken[count] if self.has(count + 1) else None
 
     def stack(self, count):
         """The bodies that run behind so many steps, the innermost last."""
-        return self.stacks[count] if count < len(self) else ()
+        return self.stacks[count] if self.has(count + 1) else ()
 
     def over(self, count):
         """How many steps were taken behind the next command and all that it runs."""
-        depth, count = self.depth(count), min(len(self), count + 1)
+        depth, count = self.depth(count), self.up_to(count + 1)
         while self.depth(count) > depth:
             count += 1
         return count
@@ -154,7 +185,7 @@ class Film:
     def out(self, count):
         """How many steps were taken where the innermost body that runs has ended."""
         depth = self.depth(count)
-        while count < len(self) and self.depth(count) >= max(1, depth):
+        while self.has(count + 1) and self.depth(count) >= max(1, depth):
             count += 1
         return count if depth else len(self)
 

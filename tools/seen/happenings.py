@@ -1,37 +1,67 @@
 """What a stream does, command by command: where each command stands in the file, what it changes, marks and sends.
 
-All of it is read from the lines of the trace, which are the program's where it stands, else the model's.
+All of it is read from the lines of the trace, one after another, and none is held.
 """
 
 import functools
-import itertools
+import json
 import re
 from typing import NamedTuple, Optional
 
-from model import commands, pages, table
-from model.trace_lines import placed as placed_in
+from model import commands, pages
 from model.values import dot
 
 from . import program, sent, traced
 from .bodies import Follower, Placed
-from .fields import Fields, changes, power_on
+from .fields import Fields, changes, changes_of_row, power_on
 from .leaves import Leaves
 from .patches import Open
+from .placing import PARAM, Placer, row_of
 
-FIELDS_OF_NOTHING = ()
-MOST_KEPT = 10000     # commands that come again and are one value
-TEXT = re.compile(rb"[^\x00-\x1f]+")
-UNLIKE_TEXT = (b'"view":', b'"page":', b'"recorded":')
+LINE = rb'\{"at":(\d+),"bytes":%s,"depth":0,"last":"%s",%s"sheets":(\d+),"step":(\d+),%s"x":(-?\d+),"y":(-?\d+)\}\n'
+# A byte that is passed over, and a row within raster graphics, where nothing else is told.
+BYTES = {kind: re.compile(LINE % (b"1", word, b"", b"")) for kind, word in ((commands.Text, b"txt"), (commands.Foreign, b"for"))}
+PATCH = rb'(?:"page":\{"height":\d+,"rows":\["([^\]]*)"\],"width":\d+,"x":(\d+),"y":(\d+)\},)?'
+ROW = re.compile(LINE % (rb"(\d+)", rb"par \*bW", PATCH, rb'(?:"view":\{"raster":\{"rows":(\d+)\}\},)?'))
+OTHER_KIND = (ord("*"), ord("b"), ord("W"))
 
 
-class Mark(NamedTuple):
-    """The box of the dots that a command changed on the page of this number; its ends are within."""
-    page: int
-    left: int
-    top: int
-    right: int
-    bottom: int
-    dots: int      # that are others than before, one as often as a step changed it
+class Mark:
+    """The dots that a command changed on the page of this number, and their box, whose ends are within, which is looked for when it is asked for."""
+
+    __slots__ = "page", "patches", "found"
+
+    def __init__(self, page, patches):
+        self.page, self.patches, self.found = page, patches, None
+
+    def box(self):
+        """Left, top, right and bottom, and how many dots are others than before, one as often as a step changed it."""
+        if self.found is None:
+            self.found = box_of(*self.patches[0])
+            for each in self.patches[1:]:
+                left, top, right, bottom, dots = box_of(*each)
+                box = self.found
+                self.found = min(box[0], left), min(box[1], top), max(box[2], right), max(box[3], bottom), box[4] + dots
+            self.patches = None
+        return self.found
+
+    def size(self):
+        """Its width and height."""
+        left, top, right, bottom, _ = self.box()
+        return right - left + 1, bottom - top + 1
+
+    def dots(self):
+        return self.box()[4]
+
+
+def box_of(left, top, rows, old):
+    """The box of what a patch changes, which begins at a byte and a line, with its rows and the whole ones that were there; and how many dots."""
+    changed = [int.from_bytes(before[left:left + len(row)], "big") ^ int.from_bytes(row, "big") for row, before in zip(rows, old)]
+    dots, lines = 0, [line for line, some in enumerate(changed, top) if some]
+    for some in changed:
+        dots |= some
+    end = 8 * (left + len(rows[0]))
+    return (end - dots.bit_length(), lines[0], end - (dots & -dots).bit_length(), lines[-1], sum(some.bit_count() for some in changed))
 
 
 class Happening(NamedTuple):
@@ -45,10 +75,7 @@ class Happening(NamedTuple):
     sheets: tuple            # of pairs: the number of the sheet, how many copies go out
     replies: bytes
     bodies: int              # commands of macros and overlays that it ran
-    page: int                # that is open behind it, counted from 0 in the order in which pages close
-    cursor: tuple            # the physical dot of the cursor behind it
-    place: tuple             # x and y behind it, in 1/7200 inch
-    step: int
+    page: int                # that is open before it, counted from 0 in the order in which pages close
     depth: int
     resolution: int          # behind it, in dots per inch
     before: dict             # the fields before it
@@ -56,138 +83,151 @@ class Happening(NamedTuple):
     fills: bool              # whether the pattern of a fill is there
 
 
-def placed_commands(stream):
-    """The commands of a stream, at its end those of its rest, each with its place; without the exit that is added."""
-    return [Placed(*each) for each in placed_in(stream)][:-1]
-
-
-def placed_together(stream):
-    """The same, with one for bytes of text, or of another language, that stand together; but for text behind data that was taken."""
-    end, alone, kept = 0, False, {}
-    for placed in map(Placed._make, placed_in(stream)):
-        placed = placed._replace(command=kept.setdefault((type(placed.command), placed.command), placed.command)) if len(kept) < MOST_KEPT else placed
-        if placed.offset < end or placed.length == 0:
-            continue
-        if isinstance(placed.command, commands.Foreign):
-            end = max(placed.offset + placed.length, end_of_foreign(stream, placed.offset))
-        elif isinstance(placed.command, commands.Text) and not alone and (found := TEXT.match(stream, placed.offset)):
-            end = found.end()
-        else:
-            end = placed.offset + placed.length
-        yield placed._replace(length=end - placed.offset)
-        alone = takes_data(placed.command) or (alone and isinstance(placed.command, commands.Text))
-
-
-def end_of_foreign(stream, place):
-    """Where the next universal exit begins; at the end of the stream a part of one, which is closed by itself."""
-    end = stream.find(commands.UNIVERSAL_EXIT, place)
-    if end >= 0:
-        return end
-    part = next((size for size in range(len(commands.UNIVERSAL_EXIT) - 1, 0, -1) if stream.endswith(commands.UNIVERSAL_EXIT[:size])), 0)
-    return len(stream) - part
-
-
 def takes_data(command):
-    return isinstance(command, commands.Param) and bool(command.data) and table.row_of(command) is None
+    return isinstance(command, commands.Param) and bool(command.data) and row_of(command) is None
 
 
 class Marks(Open):
-    """The open page, and the boxes of what was changed on it since they were asked for last."""
+    """The open page, and what was changed on it since that was asked for last."""
 
     def __init__(self):
         super().__init__()
-        self.boxes = {}
+        self.marks = {}
 
     def mark(self, line, number):
         """Goes on by a line; `number` is that of the page that is open before the step."""
         if old := self.go_on(line):
-            self.note(line["page"], old, number)
+            patch = line["page"]
+            self.note(number, patch["x"] // 8, patch["y"], [bytes.fromhex(row) for row in patch["rows"]], old)
 
-    def note(self, patch, old, number):
-        """Notes the box of the dots that are others than before."""
-        left, size = patch["x"] // 8, len(patch["rows"][0]) // 2
-        changed = [int.from_bytes(row[left:left + size]) ^ int(text, 16) for row, text in zip(old, patch["rows"])]
-        dots, lines = 0, [line for line, some in enumerate(changed, patch["y"]) if some]
-        for some in changed:
-            dots |= some
-        first, last = patch["x"] + 8 * size - dots.bit_length(), patch["x"] + 8 * size - (dots & -dots).bit_length()
-        box = self.boxes.get(number, (first, lines[0], last, lines[-1], 0))
-        self.boxes[number] = (min(box[0], first), min(box[1], lines[0]), max(box[2], last), max(box[3], lines[-1]),
-                              box[4] + sum(some.bit_count() for some in changed))
+    def note(self, number, *patch):
+        if number not in self.marks:
+            self.marks[number] = Mark(number, [])
+        self.marks[number].patches.append(patch)
 
     def taken(self):
-        boxes, self.boxes = self.boxes, {}
-        return tuple(Mark(number, *box) for number, box in boxes.items())
+        if not self.marks:
+            return ()
+        marks, self.marks = tuple(self.marks.values()), {}
+        return marks
 
 
 class Run:
-    """The happenings of a stream, and its sheets. What stands in front of it sets the defaults. `watch` is handed each line, before the page goes on by it,
-    with the step that it is of; of bytes that are passed over at once the last line alone, without a step."""
+    """What a stream does: its happenings, one after another, and its sheets; all is known when they were asked for to the end. What stands in front
+    of it sets the defaults. `watch` is handed each line, before the page goes on by it, with the step that it is of; of bytes that are passed over at
+    once the last line alone, without a step. One that has a `row` is handed rows within raster graphics by it, without a line."""
 
-    def __init__(self, stream, front=b"", together=False, chosen=program.PROGRAM, watch=None):
-        self.watch = watch or (lambda run, line, step: None)
+    def __init__(self, stream, front=b"", chosen=program.PROGRAM, watch=None):
+        self.watch, self.watch_row = watch, getattr(watch, "row", None)
         self.stream = stream
         self.whole = front + stream
         self.chosen = chosen
         self.who = traced.who(chosen)
-        self.texts = iter(traced.lines(self.whole, chosen))
-        fields = Fields()
-        self.first = fields.go_on(power_on())
-        self.fields, self.follower, self.leaves, self.marks = fields, Follower(self.first, self.row_of), Leaves(), Marks()
-        self.watcher = sent.Watcher()
-        self.shift = 0
-        self.front = [self.carry_out(placed) for placed in placed_commands(front)]
-        self.shift = len(front)
-        every = placed_together(stream) if together else placed_commands(stream)
-        self.happenings = [happening for placed in every for happening in self.happenings_of(placed)]
-        self.end = self.carry_out(Placed(len(stream), 0, commands.Uel()))
+        self.texts, self.text = iter(traced.texts(self.whole, chosen)), None
+        self.fields = Fields()
+        self.follower = Follower(self.fields.go_on(power_on(chosen)), row_of)
+        self.leaves, self.marks, self.watcher = Leaves(), Marks(), sent.Watcher()
+        self.placer = Placer(self.whole, len(front))
+        self.front, self.end, self.steps = [], None, 0
+
+    def __iter__(self):
+        """The happenings; those of the front, and that of the exit that is added at the end, stand by themselves."""
+        alone = False
+        while True:
+            text = self.next_text()
+            found = ROW.fullmatch(text)
+            if found and (self.watch is None or self.watch_row) and (happening := self.carry_out_row(found)) is not None:
+                alone = False
+                yield happening
+                continue
+            line = json.loads(text)
+            placed = self.placer.placed(line)
+            if not placed.length:
+                break
+            if placed.offset < 0:
+                self.front.append(self.carry_out(line, placed))
+                continue
+            yield self.pass_over(line, placed) if self.goes_together(placed.command, alone) else self.carry_out(line, placed)
+            alone = takes_data(placed.command) or (alone and isinstance(placed.command, commands.Text))
+        self.end, self.steps = self.carry_out(line, placed), line["step"]
         if next(self.texts, None) is not None:
             raise ValueError("the trace goes on behind the end of the stream")
 
-    def row_of(self, command):
-        return table.row_of(command)
+    def read(self):
+        """Goes through it once."""
+        for _ in self:
+            pass
+        return self
 
-    def happenings_of(self, placed):
-        """Those of a command; bytes that stand together are passed over at once, unless they are recorded."""
-        if placed.count() == 1:
-            yield self.carry_out(placed)
-        elif self.fields.now["defining"] is None:
-            yield self.pass_over(placed)
-        else:
-            for number in range(placed.length):
-                byte = self.stream[placed.offset + number]
-                yield self.carry_out(Placed(placed.offset + number, 1, type(placed.command)(byte)))
+    def next_text(self):
+        """The next line, as it stands."""
+        text, self.text = self.text or next(self.texts, None), None
+        if text is None:
+            raise ValueError("the trace ends before the stream")
+        return text
 
-    def pass_over(self, placed):
-        """Bytes that have no row, and change nothing but the number of steps."""
-        before, count, line = self.follower.fields, placed.count(), None
-        for line in itertools.islice(self.texts, count):
-            if "view" in line and before is not self.first or "page" in line or line["depth"]:
-                raise ValueError(f"step {line['step']} of the trace is no byte that is passed over")
-        now = self.follower.fields = self.fields.go_on(line)
-        self.watch(self, line, None)
-        how = "HP-GL/2" if now["hpgl"] and isinstance(placed.command, commands.Text) else "no row"
-        return Happening(placed, None, how, None, FIELDS_OF_NOTHING, (), 0, (), b"", 0, self.leaves.closed, cursor_dot(now),
-                         (now["x"], now["y"]), line["step"], 0, now["resolution"], before, sent.NOTHING, False)
+    def goes_together(self, command, alone):
+        """Whether bytes like this that follow are one happening with it; but for text behind data that was taken."""
+        return isinstance(command, (commands.Text, commands.Foreign)) and not (alone and isinstance(command, commands.Text)) and \
+            self.fields.now["defining"] is None
 
-    def carry_out(self, placed):
+    def pass_over(self, line, placed):
+        """A byte that has no row, and those of its kind behind it, which change nothing but the number of steps."""
+        before, pattern, place, last = self.follower.fields, BYTES[type(placed.command)], line["at"] + 1, None
+        while (text := next(self.texts, None)) is not None and pattern.fullmatch(text):
+            place, last = place + 1, text
+        self.text = text
+        if last is None:
+            return self.carry_out(line, placed)
+        watch, self.watch = self.watch, None
+        happening = self.carry_out(line, placed)
+        self.watch, last = watch, json.loads(last)
+        now = self.follower.fields = self.fields.go_on(last)
+        if watch:
+            watch(self, last, None)
+        return happening._replace(placed=placed._replace(length=place - line["at"]), resolution=now["resolution"], before=before)
+
+    def carry_out_row(self, found):
+        """A row within raster graphics, of the line that was matched; None where it may be another thing than a row that is carried out."""
+        before, base = self.follower.fields, self.fields.now.base
+        if base.get("defining", 0) is not None or base["hpgl"] or not base["raster_on"]:
+            return None
+        at, size, rows, left, top, sheets, step, count, x, y = found.groups()
+        place, number, patch = int(at), self.leaves.closed, None
+        data = self.whole[place:place + int(size)]
+        field = PARAM.match(data)
+        command = commands.Param(*OTHER_KIND[:2], field[1], OTHER_KIND[2], data[field.end():])
+        self.placer.before = "par *bW", data
+        marks = ()
+        if rows is not None:
+            left, top, patch = int(left) // 8, int(top), [bytes.fromhex(row) for row in rows.decode().split('","')]
+            marks = (Mark(number, [(left, top, patch, self.marks.page.lay_rows(left, top, patch))]),)
+        gone = self.watcher.of_rows(before, command.data, bool(marks))
+        now = self.follower.fields = self.fields.go_on_row(int(x), int(y), int(sheets), count)
+        if self.watch_row:
+            self.watch_row(self, int(step), now, count, patch and (left, top, patch))
+        return Happening._make((Placed._make((place - self.placer.shift, int(size), command)), "*bW", "row", None, changes_of_row(before, now), marks, 0, (),
+                                b"", 0, number, 0, base["resolution"], before, gone, True))
+
+    def carry_out(self, line, placed):
         """Goes on by a command of the stream, and by the bodies that it starts."""
-        before, first, depth, closes, sheets, replies, count, gone = self.follower.fields, None, 0, 0, [], "", 0, sent.NOTHING
+        before, page, first, depth, closes, sheets, replies, count, gone = self.follower.fields, self.leaves.closed, None, 0, 0, [], "", 0, sent.NOTHING
         while first is None or self.follower.bodies:
-            line = next(self.texts)
-            if line["at"] != placed.offset + self.shift or line["bytes"] != placed.length:
-                raise ValueError(f"step {line['step']} stands at byte {line['at']}, and the command at {placed.offset + self.shift}")
+            if first is not None:
+                line = json.loads(self.next_text())
+                if line["at"] != placed.offset + self.placer.shift or line["bytes"] != placed.length:
+                    raise ValueError(f"step {line['step']} stands at byte {line['at']}, and the command at {placed.offset + self.placer.shift}")
             step, closed, sheet, one = self.take(line, placed)
             first = first or step
             depth, closes, count, gone = max(depth, line["depth"]), closes + closed, count + 1, gone.plus(one) if one is not sent.NOTHING else gone
             replies += line.get("reply", "")
             sheets += [(sheet.number, sheet.copies)] if sheet else []
         now = self.fields.now
-        row = self.row_of(placed.command)
+        row = row_of(placed.command)
         return Happening(
             placed, row and row.name, first.how, first.recorded_in, changes(before, now),
-            self.marks.taken(), closes, tuple(sheets), replies.encode("latin-1"), count - 1, self.leaves.closed, cursor_dot(now),
-            (now["x"], now["y"]), line["step"], depth, now["resolution"], before, gone, self.has_pattern(placed.command, before))
+            self.marks.taken(), closes, tuple(sheets), replies.encode("latin-1"), count - 1, page, depth, now["resolution"], before, gone,
+            self.has_pattern(placed.command, before))
 
     def take(self, line, placed):
         """A line: its step, whether a page closes, the sheet that goes out or None, and what is sent."""
@@ -195,7 +235,8 @@ class Run:
         quiet = before["defining"] is None and not before["hpgl"]
         one = self.watcher.of(before, command, "page" in line) if quiet and sent.letters(command) in sent.SENDING else sent.NOTHING
         step = self.follower.go_on(line, placed, self.fields.go_on(line))
-        self.watch(self, line, step)
+        if self.watch:
+            self.watch(self, line, step)
         self.marks.mark(line, self.leaves.closed)
         return step, *self.leaves.go_on(line, step), one
 
@@ -231,9 +272,3 @@ def cursor_dot(now):
     size, orientation = size_at(base["size"], resolution), base["orientation"]
     column = pages.offset(size, orientation) + dot(now.x, resolution)
     return pages.to_physical(size, orientation, column, dot(now.y + base["top_margin"], resolution))
-
-
-def with_pattern_ids(some):
-    """Each happening with the pattern ID that holds when it begins."""
-    for happening in some:
-        yield happening, happening.before["pattern_id"]

@@ -42,6 +42,28 @@ function matches(words, text, remark) {
   return words.every(word => whole.includes(word) || word.startsWith("esc") && whole.includes("esc " + word.slice(3)));
 }
 
+// The parts of a row: of what has no spelling in PCL what it is stands as the title.
+function partsOf([, , spelled, what, effect, flags, cause]) {
+  return {title: spelled || what, what: spelled ? what : "", effect, flags, cause};
+}
+
+function remarkOf([, place, spelled, what, effect]) {
+  return `at ${place}${spelled ? ", " + spelled : ""}: ${what}: ${effect}`;
+}
+
+// A field's value in words, and its unit; places are told in dots, too.
+function fieldText(value, [, unit, words], now) {
+  const number = count => count.toLocaleString("en", {maximumFractionDigits: 2});
+  if (value === null) return {shown: "none", unit: ""};
+  if (Array.isArray(value)) return {shown: value.map(place => place.join(", ")).join("; ") || "none", unit: ""};
+  if (typeof value === "boolean") return {shown: value ? "on" : "off", unit: ""};
+  if (value in words) return {shown: words[value], unit: ""};
+  if (unit === "position") return {shown: counted(value * now.page.resolution / 7200, "dot"), unit: ` (${number(value)})`};
+  if (unit === "units") return {shown: number(7200 / value), unit: " per inch"};
+  return {shown: number(value), unit: unit && " " + unit};
+}
+
+const counted = (count, noun) => `${count.toLocaleString("en", {maximumFractionDigits: 2})} ${noun}${Math.abs(count) === 1 ? "" : "s"}`;
 const wordsOf = text => text.toLowerCase().split(" ").filter(word => word);
 
 // The number that stands in an address behind #, of 1 up to the count, or null.
@@ -50,4 +72,4 @@ function numberIn(hash, count) {
   return found && Number(found[1]) >= 1 ? Math.min(count, Number(found[1])) : null;
 }
 
-if (typeof module !== "undefined") module.exports = {heightOf, rowPixels, scrollFor, seenRows, scrollToRow, matches, wordsOf, numberIn, MOST_PIXELS};
+if (typeof module !== "undefined") module.exports = {partsOf, remarkOf, fieldText, counted, heightOf, rowPixels, scrollFor, seenRows, scrollToRow, matches, wordsOf, numberIn, MOST_PIXELS};

@@ -25,14 +25,48 @@ def listing_of(run):
     return ran.stdout
 
 
-def sides(run):
-    """The sides that went out, without copies: for each what is listed of it, the number of its sheet, `front` or `back`, and copies."""
-    wanted, told, place = run.pages_of_sides(), {}, 0
-    text = listing_of(run)
-    for _ in range(sum(copies for _, _, _, copies in wanted)):
-        found = LINE.match(text, place)
-        if found is None:
+class Sides:
+    """The sides that went out, without copies: for each what is listed of it, the number of its sheet, `front` or `back`, and copies. They are read from
+    the listing as far as the run has come."""
+
+    def __init__(self, run):
+        self.run, self.text = run, listing_of(run)
+        self.place = self.sheets = self.lines = 0
+        self.found, self.pages = [], []     # the sides, and for each its page
+
+    def go_on(self):
+        """Reads those that the run has handed out since."""
+        for sheet in self.run.leaves.sheets[self.sheets:]:
+            for name, page in (("front", sheet.front), ("back", sheet.back)):
+                if page is not None:
+                    self.found.append((self.take(sheet.number, name), sheet.number, name, sheet.copies))
+                    self.pages.append(page)
+        self.sheets = len(self.run.leaves.sheets)
+
+    def take(self, number, name):
+        """What is listed of a side; copies stand before it."""
+        while (line := self.line()) is not None:
+            if int(line[1]) == number and line[2].decode() == name:
+                return Listed(*map(int, line.groups()[2:]))
+        raise ValueError("the listing has other sides than the trace")
+
+    def line(self):
+        line = LINE.match(self.text, self.place)
+        if line is not None:
+            self.place, self.lines = line.end(), self.lines + 1
+        return line
+
+    def all(self):
+        """All, at the end of the run."""
+        self.go_on()
+        wanted = sum(copies for _, _, _, copies in self.found)
+        while self.lines < wanted and self.line() is not None:
+            pass
+        if self.lines != wanted:
             raise ValueError("the listing has other sides than the trace")
-        told[int(found[1]), found[2].decode()] = Listed(*map(int, found.groups()[2:]))
-        place = found.end()
-    return [(told[number, name], number, name, copies) for _, number, name, copies in wanted]
+        return self.found
+
+
+def sides(run):
+    """The sides of a run that was read."""
+    return Sides(run).all()

@@ -1,7 +1,7 @@
 "use strict";
 // The page: what was chosen, the line of time, the list and the pane of fields. The canvas is in paper.js.
 
-const HIGH = 42, LEAP = 100, PLAY_MOST = 40;
+const LEAP = 100, PLAY_MOST = 40, NARROW = 420;
 const at = name => document.getElementById(name);
 const film = new Film(data);
 const state = {entry: -1, from: -1, side: -1, playing: 0, shown: [], here: -1, drawn: 0};
@@ -17,21 +17,26 @@ function element(name, values, ...inside) {
 
 const rowsOfList = new Map();
 
+// In pixels: a title and two lines, or three where the list is narrow.
+const rowHeight = () => at("list").clientWidth < NARROW ? 78 : 60;
+
 function drawList() {
-  const list = at("list"), {first, end, top} = seenRows(list.scrollTop, list.clientHeight, state.shown.length, HIGH);
+  const list = at("list"), high = rowHeight(), {first, end, top} = seenRows(list.scrollTop, list.clientHeight, state.shown.length, high);
+  list.classList.toggle("narrow", high > 60);
+  at("all").style.height = heightOf(state.shown.length, high) + "px";
   const wanted = new Set();
   for (let place = first; place < end; place++) {
     const number = state.shown[place];
     wanted.add(number);
     let row = rowsOfList.get(number);
     if (!row) {
-      row = element("div", {class: "row", role: "option", id: "row-" + number}, element("b"), element("div"));
+      row = element("div", {class: "row", role: "option", id: "row-" + number}, element("p", {}, element("b"), element("em"), element("span")), element("div"));
       row.dataset.number = number;
       rowsOfList.set(number, row);
       at("all").append(row);
       fillRow(number, row);
     }
-    row.style.top = top + (place - first) * HIGH + "px";
+    row.style.top = top + (place - first) * high + "px";
     row.setAttribute("aria-posinset", place + 1);
     row.setAttribute("aria-setsize", state.shown.length);
     row.classList.toggle("here", number === state.here);
@@ -42,29 +47,34 @@ function drawList() {
 }
 
 async function fillRow(number, row) {
-  const [text, remark, flags] = film.rowNow(number) || await film.row(number);
-  row.firstChild.textContent = text;
-  row.lastChild.textContent = remark;
+  const told = film.rowNow(number) || await film.row(number), {flags} = partsOf(told), [title, cause, what] = row.firstChild.children;
+  title.textContent = partsOf(told).title;
+  cause.textContent = partsOf(told).cause;
+  what.textContent = partsOf(told).what;
+  row.lastChild.textContent = partsOf(told).effect;
+  row.title = remarkOf(told);
   row.classList.toggle("ignored", (flags & 1) !== 0);
+  row.classList.toggle("wrong", (flags & 8) !== 0);
   row.classList.toggle("gone", (flags & 2) !== 0);
   row.classList.toggle("reply", (flags & 4) !== 0);
 }
+
+const MASKS = {ignored: 1, out: 6, wrong: 8};
 
 async function choose() {
   const words = wordsOf(at("find").value), which = at("which").value, token = ++state.search;
   const marking = which === "page" ? await rowsThatMark() : null, found = [];
   for (let number = 0; number < film.rowCount; number++) {
     if (marking && !marking.has(number)) continue;
-    if (words.length || which === "out" || which === "ignored") {
-      const [text, remark, flags] = film.rowNow(number) || await film.row(number);
+    if (words.length || which in MASKS) {
+      const told = film.rowNow(number) || await film.row(number);
       if (token !== state.search) return;
-      if (which === "out" && !(flags & 6) || which === "ignored" && !(flags & 1) || !matches(words, text, remark)) continue;
+      if (which in MASKS && !(partsOf(told).flags & MASKS[which]) || !matches(words, told[0], remarkOf(told))) continue;
     }
     found.push(number);
   }
   state.shown = found;
   at("count").textContent = found.length.toLocaleString("en") + " of " + film.rowCount.toLocaleString("en");
-  at("all").style.height = heightOf(found.length, HIGH) + "px";
   drawList();
   showRow();
 }
@@ -83,7 +93,7 @@ function shownPage() {
 function showRow() {
   const place = placeOf(state.here), list = at("list");
   if (state.here < 0) list.scrollTop = 0;
-  else if (place >= 0) list.scrollTop = scrollToRow(place, list.scrollTop, list.clientHeight, state.shown.length, HIGH);
+  else if (place >= 0) list.scrollTop = scrollToRow(place, list.scrollTop, list.clientHeight, state.shown.length, rowHeight());
   drawList();
 }
 
@@ -124,11 +134,12 @@ async function tellCommand(token) {
     told.replaceChildren("Before the first command, as at power on. Point at a command or walk by j and k: the page stands as it was behind each step.");
     return;
   }
-  const [text, remark] = await film.row(state.here), own = film.own[entry];
+  const row = await film.row(state.here), own = film.own[entry];
   const body = own >= 0 ? await film.row(own) : null;
   if (token !== state.drawn) return;
-  const parts = [element("code", {}, text), element("div", {}, remark)];
-  if (body) parts.unshift(element("div", {}, `In ${film.data.stacks[film.stack[entry]].at(-1)[0]}: `, element("code", {}, body[0]), " recorded " + body[1]),
+  const {title, cause, what, effect} = partsOf(row), head = [element("code", {}, title), ...cause ? [element("em", {}, cause)] : [], ` ${what}${what && ", "}at ${row[1]}`];
+  const parts = [element("div", {}, ...head), element("div", {}, effect), element("div", {class: "text"}, element("code", {}, row[0]))];
+  if (body) parts.unshift(element("div", {}, `In ${film.data.stacks[film.stack[entry]].at(-1)[0]}: `, element("code", {}, body[0]), " recorded " + remarkOf(body)),
     element("div", {class: "soft"}, "which was started by"));
   told.replaceChildren(...parts);
   told.scrollTop = 0;
@@ -138,11 +149,12 @@ async function tellFields(token) {
   const {now, changed: others} = await film.fields(state.entry);
   if (token !== state.drawn) return;
   const rows = [["x", state.entry < 0 ? 0 : film.x[state.entry]], ["y", state.entry < 0 ? 900 : film.y[state.entry]],
-    ["sheets so far", state.entry < 0 ? 0 : film.sheets[state.entry]]].map(([name, value]) => fieldRow(name, value, changedColumn(name)));
+    ["sheets so far", state.entry < 0 ? 0 : film.sheets[state.entry]]].map(([name, value]) => fieldRow(name, name, value, changedColumn(name), now));
   for (const [name, some] of Object.entries(now).sort()) {
-    for (const [key, value] of Object.entries(some)) rows.push(fieldRow(name + "." + key, value, others.has(name + "." + key)));
+    for (const [key, value] of Object.entries(some)) rows.push(fieldRow(name + "." + key, data.words[name + "." + key][0], value, others.has(name + "." + key), now));
   }
   at("fields").tBodies[0].replaceChildren(...rows);
+  at("unchanged").hidden = !at("only-changed").checked || rows.some(row => row.className);
   tellStack();
 }
 
@@ -151,10 +163,10 @@ function changedColumn(name) {
   return entry >= 0 && some[entry] !== (entry > 0 ? some[entry - 1] : name === "y" ? 900 : 0);
 }
 
-function fieldRow(name, value, other) {
-  const shown = value === null ? "none" : Array.isArray(value) ? value.map(place => place.join(", ")).join("; ") || "none" : String(value);
-  const row = element("tr", {}, element("th", {scope: "row"}, name.replaceAll("_", " ")), element("td", {}, shown));
-  if (other) { row.className = "changed"; row.title = "changed by this step"; }
+function fieldRow(name, word, value, other, now) {
+  const {shown, unit} = fieldText(value, data.words[name] || [name, name === "sheets so far" ? "" : "position", {}], now);
+  const row = element("tr", {title: `${name}: ${Array.isArray(value) ? JSON.stringify(value) : value}`}, element("th", {scope: "row"}, word), element("td", {}, shown, element("small", {}, unit)));
+  if (other) { row.className = "changed"; row.title += ", changed by this step"; }
   return row;
 }
 
@@ -167,6 +179,29 @@ function tellStack() {
   at("stack-title").textContent = stack.length ? "Bodies that ran it" : "No body ran it";
   const replies = data.replies.filter(([made]) => made <= entry).slice(-20);
   at("replies").replaceChildren(...replies.map(([made, text]) => element("li", {}, element("button", {"data-entry": made}, text))));
+}
+
+// What is wrong with the stream: each finding leads to its command, and to where the cursor stood before it on the page.
+
+function drawFindings() {
+  const grave = data.findings.filter(finding => finding.grade).length;
+  at("findings").hidden = !data.findings.length;
+  at("findings").open = grave > 0;
+  at("found").textContent = grave ? `${counted(grave, "finding")}: ${data.findings[0].sentence}` : "Nothing is wrong, but for what no dot depends on";
+  at("causes").replaceChildren(...data.findings.map((finding, number) => {
+    const side = finding.side === null ? "" : `side ${finding.side + 1}`, row = finding.row === null ? "" : `row ${(finding.row + 1).toLocaleString("en")}`;
+    const links = [["row", row], ["side", side]].filter(([, word]) => word).map(([kind, word]) => element("button", {"data-finding": number, "data-to": kind}, word));
+    return element("li", {class: ["fine", "lost", "wrong", "moved"][finding.grade]}, finding.sentence + " ", ...links, element("small", {}, " " + finding.advice));
+  }));
+}
+
+async function goToFinding(number, to) {
+  const {row, side} = data.findings[number];
+  play(false);
+  if (to === "side" || row === null) return goTo(entryOfSide(side), undefined, side);
+  const [first] = film.entriesOf(row);
+  await goToRow(row);
+  pointOut(first);
 }
 
 // The strip of sides
@@ -218,7 +253,7 @@ const KEYS = {
   j: () => goTo(state.entry + 1), k: () => goTo(state.entry - 1), PageDown: () => goTo(state.entry + LEAP), PageUp: () => goTo(state.entry - LEAP),
   Home: () => goTo(-1), End: () => goTo(film.count - 1), p: () => play(!state.playing), "+": () => zoomBy(2), "=": () => zoomBy(2), "-": () => zoomBy(.5),
   0: () => zoomTo(0), 1: () => zoomTo(1 / devicePixelRatio), "/": () => at("find").focus(), g: () => toggle("show-grid"), l: () => toggle("show-loupe"),
-  n: () => nextFound(1), N: () => nextFound(-1),
+  n: () => nextFound(1), N: () => nextFound(-1), c: () => toggle("only-changed"),
 };
 
 function toggle(name) {
@@ -281,6 +316,8 @@ at("slider").addEventListener("input", () => { play(false); goTo(Number(at("slid
 for (const [name, key] of [["first", "Home"], ["back", "k"], ["play", "p"], ["on", "j"], ["last", "End"], ["less", "-"], ["fit", "0"], ["dots", "1"], ["more", "+"]]) {
   at(name).addEventListener("click", () => { if (name !== "play" && state.playing) play(false); KEYS[key](); });
 }
+at("causes").addEventListener("click", event => { if (event.target.dataset.to) goToFinding(Number(event.target.dataset.finding), event.target.dataset.to); });
+at("only-changed").addEventListener("change", () => { at("side").classList.toggle("few", at("only-changed").checked); tellFields(state.drawn); });
 at("find").addEventListener("input", choose);
 at("find").addEventListener("keydown", event => { if (event.key === "Enter") { nextFound(event.shiftKey ? -1 : 1); } });
 at("which").addEventListener("change", choose);
@@ -297,6 +334,7 @@ async function begin() {
   await film.load();
   at("slider").max = film.count;
   drawStrip();
+  drawFindings();
   await choose();
   await (followHash() ?? (data.sides.length ? goTo(entryOfSide(0), undefined, 0) : goTo(film.count - 1)));
   document.body.dataset.ready = "yes";

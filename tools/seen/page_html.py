@@ -6,9 +6,8 @@ import re
 from pathlib import Path
 
 from model import pages
-from model.trace_lines import SIZE_CODES
 
-from . import shown
+from . import fields, shown
 
 HERE = Path(__file__).parent
 TEMPLATE = HERE / "show.html"
@@ -17,8 +16,8 @@ SCRIPTS = ("film.js", "dots.js", "list.js", "page.js", "paper.js")
 
 def sizes():
     """The sizes of paper by their numbers, in dots of 300 per inch."""
-    return {SIZE_CODES[name]: {"width": size.width, "height": size.height, "portrait": size.portrait_offset, "landscape": size.landscape_offset}
-            for name, size in pages.SIZES.items()}
+    return {number: {"width": size.width, "height": size.height, "portrait": size.portrait_offset, "landscape": size.landscape_offset}
+            for number, size in ((number, pages.SIZES[name]) for number, name in fields.SIZES.items())}
 
 
 def scripts():

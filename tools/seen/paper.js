@@ -3,6 +3,7 @@
 
 const view = at("view"), paper = at("paper"), ink = paper.getContext("2d");
 const picture = {bits: null, width: 0, height: 0, stride: 0, tint: null, entry: -1, side: -1, resolution: 300};
+const pointer = {x: null, y: null};    // on the screen, while it is on the page
 let zoom = 0, asked = 0;      // CSS pixels a dot; 0 is the whole page. A picture is drawn once a frame.
 let resting = 0;
 const REST = 120, LOUPE_DOTS = 26, RULER = 22, LEAST_GRID = 4, SMALLEST = 1 / 64, LARGEST = 32;
@@ -24,7 +25,7 @@ async function showPage(token) {
   const other = shown.width !== picture.width || shown.height !== picture.height;
   const {now} = await film.fields(entry);
   if (token !== state.drawn) return;
-  Object.assign(picture, {bits: shown.bits, width: shown.width, height: shown.height, stride: shown.stride, entry, side,
+  Object.assign(picture, {ring: null, bits: shown.bits, width: shown.width, height: shown.height, stride: shown.stride, entry, side,
     tint: before && changed(before, shown.bits, shown.stride), fields: now, resolution: side >= 0 ? resolutionOf(shown.width, shown.height) : now.page.resolution});
   at("label").textContent = label;
   paper.setAttribute("aria-label", label + (picture.tint ? "; the last step changed dots" : ""));
@@ -52,15 +53,45 @@ function scale() {
   return zoom || Math.min(view.clientWidth / picture.width, view.clientHeight / picture.height);
 }
 
-function zoomTo(wanted, x, y) {
-  const before = scale(), box = view.getBoundingClientRect();
-  const left = (x ?? box.left + box.width / 2) - box.left, top = (y ?? box.top + box.height / 2) - box.top;
-  const dotX = (view.scrollLeft + left) / before, dotY = (view.scrollTop + top) / before;
+// About a place of the screen; without one about the pointer where it is on the page, else about the mark, which comes to the middle where it is not seen.
+function zoomTo(wanted, x = pointer.x, y = pointer.y) {
+  const before = scale(), box = view.getBoundingClientRect(), mark = x === null ? markDot() : null, middle = [box.width / 2, box.height / 2];
+  let [left, top] = x === null ? middle : [x - box.left, y - box.top], dotX = (view.scrollLeft + left) / before, dotY = (view.scrollTop + top) / before;
+  if (mark) {
+    [dotX, dotY] = mark;
+    [left, top] = [dotX * before - view.scrollLeft, dotY * before - view.scrollTop];
+    if (left < 0 || top < 0 || left > box.width || top > box.height) [left, top] = middle;
+  }
   zoom = wanted && Math.max(SMALLEST, Math.min(LARGEST, wanted));
   resizePaper();
   view.scrollLeft = dotX * scale() - left;
   view.scrollTop = dotY * scale() - top;
   drawSoon();
+}
+
+// The middle of what the step changed, or the cursor behind it.
+function markDot() {
+  const {tint} = picture;
+  if (tint) return [(tint.left + tint.right + 1) * 4, (tint.top + tint.bottom + 1) / 2];
+  return picture.entry >= 0 && picture.side < 0 ? [film.across[picture.entry], film.down[picture.entry]] : null;
+}
+
+// Shows where the cursor stood before an entry, in the middle of what is seen, with a ring round it.
+function pointOut(entry) {
+  picture.ring = [entry > 0 ? film.across[entry - 1] : 0, entry > 0 ? film.down[entry - 1] : 0];
+  view.scrollLeft = picture.ring[0] * scale() - view.clientWidth / 2;
+  view.scrollTop = picture.ring[1] * scale() - view.clientHeight / 2;
+  drawSoon();
+}
+
+function drawRing(line) {
+  if (!picture.ring) return;
+  const [x, y] = picture.ring, far = 16 * line;
+  ink.strokeStyle = color("--warm");
+  ink.lineWidth = 3 * line;
+  ink.beginPath();
+  ink.arc(Math.max(far, Math.min(picture.width - far, x)), Math.max(far, Math.min(picture.height - far, y)), far, 0, 7);
+  ink.stroke();
 }
 
 function zoomBy(times, x, y) {
@@ -156,6 +187,7 @@ function drawOverlays(by) {
   box("show-logical", "#2a8f4a", [6, 4], logical);
   box("show-margins", "#b4441a", [2, 3], margins);
   ink.setLineDash([]);
+  drawRing(line);
   if (!at("show-cursor").checked || entry < 0 || picture.side >= 0) return;
   const x = film.across[entry] + .5, y = film.down[entry] + .5, arm = 14 * line;
   ink.strokeStyle = "#d01818";
@@ -225,8 +257,8 @@ function pointAt(event) {
 async function tellMark(dot, where) {
   const black = blackNear(dot), entry = black ? await entryOf(black) : -1;
   if (entry < 0) return;
-  const [text, remark] = await film.row(film.own[entry] >= 0 ? film.own[entry] : film.rowOf(entry));
-  if (paper.title === where) paper.title = `${where}\n${text}\n${remark}`;
+  const row = await film.row(film.own[entry] >= 0 ? film.own[entry] : film.rowOf(entry));
+  if (paper.title === where) paper.title = `${where}\n${row[0]}\n${remarkOf(row)}`;
 }
 
 async function clickAt(event) {
@@ -253,13 +285,28 @@ function drawLoupe(dot) {
   pen.strokeRect((LOUPE_DOTS >> 1) * by, (LOUPE_DOTS >> 1) * by, by, by);
 }
 
+// A drag moves the page; what is let go where it was pressed is a click. A finger moves it as any page.
 let down = null;
-view.addEventListener("pointerdown", event => { down = {x: event.clientX, y: event.clientY}; });
-view.addEventListener("pointerup", event => {
-  if (down && Math.hypot(event.clientX - down.x, event.clientY - down.y) < 5 && event.button === 0) clickAt(event);
-  down = null;
+view.addEventListener("pointerdown", event => {
+  if (event.button === 0 && event.pointerType !== "touch") down = {x: event.clientX, y: event.clientY, left: view.scrollLeft, top: view.scrollTop, moves: false};
 });
-view.addEventListener("pointermove", pointAt);
+view.addEventListener("pointerup", event => {
+  if (down ? !down.moves : event.pointerType === "touch") clickAt(event);
+  down = null;
+  view.classList.remove("moves");
+});
+view.addEventListener("pointercancel", () => { down = null; view.classList.remove("moves"); });
+view.addEventListener("pointermove", event => {
+  Object.assign(pointer, {x: event.clientX, y: event.clientY});
+  if (down && (down.moves ||= Math.hypot(event.clientX - down.x, event.clientY - down.y) >= 5)) {
+    if (!view.classList.contains("moves")) { view.setPointerCapture(event.pointerId); view.classList.add("moves"); }
+    view.scrollLeft = down.left - event.clientX + down.x;
+    view.scrollTop = down.top - event.clientY + down.y;
+    return;
+  }
+  pointAt(event);
+});
+view.addEventListener("pointerleave", () => { pointer.x = pointer.y = null; });
 view.addEventListener("scroll", drawSoon);
 view.addEventListener("wheel", event => {
   if (!event.ctrlKey) return;

@@ -15,9 +15,13 @@ class Page:
 
     def lay(self, patch):
         """Lays a patch over the page, and gives the rows that it replaced."""
-        left, top, old = patch["x"] // 8, patch["y"], []
-        for number, text in enumerate(patch["rows"], top):
-            row, new = self.rows[number], bytes.fromhex(text)
+        return self.lay_rows(patch["x"] // 8, patch["y"], map(bytes.fromhex, patch["rows"]))
+
+    def lay_rows(self, left, top, rows):
+        """The same of rows that begin at a byte and a line."""
+        old = []
+        for number, new in enumerate(rows, top):
+            row = self.rows[number]
             old.append(row)
             self.rows[number] = row[:left] + new + row[left + len(new):]
         return old

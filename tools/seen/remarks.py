@@ -1,12 +1,15 @@
 """A remark on a command: where it stands, what HP calls it, what its value is, and what it does here."""
 
 import functools
+import re
+from typing import NamedTuple
 
 from model import patterns, pjl
 from model.commands import Broken, Control, Escape, Foreign, Param, PjlLine, Text, Uel, kind
 from model.values import POSITIONS_PER_INCH
 
 from . import names
+from .fields import NAMES, SIZES
 
 LINE_END = b"\r\n"
 COMMANDS = {Escape: "escape", Param: "parameter", Control: "control", Text: "text", Broken: "broken", Uel: "universal exit",
@@ -26,6 +29,33 @@ FIELDS = {
     "binding": "binding", "stack": "positions pushed", "overlay": "overlay", "hpgl": "HP-GL/2", "raster_on": "raster graphics",
     "row_count": "raster rows", "defining": "open macro definition", "pjl_status": "status after each page",
 }
+
+
+OF_THE_VIEW = {
+    "cursor.pushed": "positions pushed", "drawing.pattern": "ID of the current pattern", "drawing.pattern_kind": "current pattern", "page.size": "page size",
+    "page.binding": "binding", "page.marked": "the page has a mark", "raster.left": "left edge of the raster", "raster.rows": "raster rows",
+    "settings.feed_after_return": "a CR feeds a line", "settings.return_before_feed": "an LF returns", "settings.unit": "unit of measure",
+    "settings.sheets_of_job": "sheets of this job",
+}
+
+
+def field_words():
+    """For each field of the view its words, its unit (`position` is 1/7200 inch), and the words of its values, where it has some."""
+    words = {f"{name}.{key}": (FIELDS.get(own, own), own) for name, some in NAMES.items() for key, own in some.items()}
+    words |= {name: (word, name) for name, word in OF_THE_VIEW.items()}
+    for front, name in (("PJL ", "current"), ("PJL default ", "default")):
+        words |= {f"{name}.{key}": (front + key.replace("_", " "), key) for key in ("binding", "copies", "duplex", "orientation", "page_size", "resolution")}
+    return {name: [word, unit_word(name, own), VALUES.get(name.rpartition(".")[2], {})] for name, (word, own) in words.items()}
+
+
+def unit_word(name, own):
+    if own in POSITIONS or name == "raster.left":
+        return "position"
+    return "units" if name == "settings.unit" else UNITS.get(own, "")
+
+
+VALUES = {"binding": {1: "long edge", 2: "short edge"}, "size": SIZES, "page_size": SIZES, "orientation": names.PARAMS["&lO"].values,
+          "pattern_kind": names.PATTERN_KINDS}
 
 
 def readable(data, most=60):
@@ -53,6 +83,18 @@ def spelled(command):
     return "ESC%-12345X" if isinstance(command, Uel) else ""
 
 
+TYPED = re.compile(r"(?:par |ESC)([!-/])([`-~]?)[+-]?[0-9]*(?:\.[0-9]*)?([@-^])(?: [0-9A-F]+)?")
+
+
+def typed_kind(words):
+    """A KIND as a person may type it: as a command is shown, whose value and data are dropped, or as HP spells it."""
+    if found := TYPED.fullmatch(words):
+        return "par " + "".join(found.groups())
+    if found := re.fullmatch("ESC ?([0-~])", words):
+        return "esc " + found[1]
+    return next((f"ctl {control:02X}" for control, word in SPELLED_CONTROLS.items() if word == words), words)
+
+
 def plural(count, unit):
     return f"{count} {unit if count == 1 or unit[0].isdigit() else PLURALS.get(unit, unit + 's')}"
 
@@ -78,11 +120,12 @@ def name_of(command):
 
 def value_of(command):
     """The value of a parameterized command with its unit or its meaning; empty where it needs none."""
-    return value_without_data(command._replace(data=b"")) if isinstance(command, Param) else ""
+    return value_without_data(*command[:4]) if isinstance(command, Param) else ""
 
 
 @functools.lru_cache(maxsize=4096)
-def value_without_data(command):
+def value_without_data(*command):
+    command = Param(*command, b"")
     known, value = names.named(command), command.value()
     spelled = command.field.decode() or "0"
     shown = f"{value.tenthousandths / 10000:.4f}".rstrip("0").rstrip(".")
@@ -99,6 +142,8 @@ def value_without_data(command):
 
 
 def shown_field(name, value):
+    if name in PLACES:
+        return str(value)
     if value is None:
         return "none"
     if isinstance(value, bool):
@@ -159,7 +204,7 @@ def deeds(happening, pattern_id):
     for number, copies in happening.sheets:
         told.append(f"sheet {number} goes out" + (f" in {copies} copies" if copies > 1 else ""))
     for mark in happening.marks:
-        told.append(f"marks {mark.right - mark.left + 1} by {mark.bottom - mark.top + 1} dots")
+        told.append("marks {} by {} dots".format(*mark.size()))
     if happening.bodies > 0:
         told.append(f"runs {plural(happening.bodies, 'recorded command')}")
     if isinstance(happening.placed.command, Param) and happening.row == "*cW":
@@ -203,20 +248,25 @@ def line_without_change(command):
     return "changes nothing"
 
 
-def told(happening, pattern_id=0, because=""):
-    """Name, value and effect, in one line of text."""
-    command = happening.placed.command
-    return f"{name_of(command)}{value_of(command)}: {effect_of(happening, pattern_id, because)}"
+class Remark(NamedTuple):
+    """What is said of a command, or of several that are passed over for one reason."""
+    place: str     # in the file
+    spelled: str   # as in PCL; empty for what is no command of it
+    what: str      # name and value, or how many bytes there are and which
+    effect: str
+
+    def text(self):
+        """One line."""
+        return f"at {self.place}{', ' + self.spelled if self.spelled else ''}: {self.what}: {self.effect}"
 
 
 def remark(happening, pattern_id=0, because=""):
-    """The same, with the place in the file, and the command as it is spelled in PCL."""
-    word = spelled(happening.placed.command)
-    return f"at {happening.placed.offset}{', ' + word if word else ''}: {told(happening, pattern_id, because)}"
+    command = happening.placed.command
+    return Remark(str(happening.placed.offset), spelled(command), name_of(command) + value_of(command), effect_of(happening, pattern_id, because))
 
 
 def of_run(happenings, data, because=""):
-    """The remark on several commands, one after another, that are passed over for one reason, and whose bytes are these."""
+    """The remark on several commands, one after another, whose bytes are these."""
     first, last, count = happenings[0], happenings[-1], sum(happening.placed.count() for happening in happenings)
     if first.how == "HP-GL/2":
         what, effect = plural(count, "command"), "ignored: HP-GL/2 is on"
@@ -224,18 +274,29 @@ def of_run(happenings, data, because=""):
         what, effect = f"{plural(count, 'byte')} of another language", NOTHING[Foreign]
     else:
         what, effect = f"{plural(count, 'byte')} of text", effect_of(first, 0, because)
-    return f'at {first.placed.offset} to {last.placed.offset + last.placed.length - 1}: {what}, "{readable(data)}": {effect}'
+    return Remark(f"{first.placed.offset} to {last.placed.offset + last.placed.length - 1}", "", f'{what}, "{readable(data)}"', effect)
 
 
-def tally(happenings):
-    """The lines of the tally: commands by kind, and how many had a row."""
-    kinds = {}
-    for happening in happenings:
-        command = happening.placed.command
-        shown = kind(command) if isinstance(command, (Param, Escape, Control)) else COMMANDS[type(command)]
-        count, with_row = kinds.get(shown, (0, 0))
-        kinds[shown] = (count + happening.placed.count(), with_row + (happening.row is not None))
-    taken = sum(with_row for _, with_row in kinds.values())
-    yield f"{plural(sum(count for count, _ in kinds.values()), 'command')}, {taken} with a row of the command table"
-    for shown, (count, with_row) in sorted(kinds.items(), key=lambda item: (-item[1][0], item[0])):
-        yield f"{count:7} {shown}{'' if with_row else ', no row'}"
+def kind_of(command):
+    """What a command is counted as."""
+    return kind(command) if isinstance(command, (Param, Escape, Control)) else COMMANDS[type(command)]
+
+
+class Tally:
+    """Commands by kind, and how many of each had a row."""
+
+    def __init__(self):
+        self.kinds = {}
+
+    def add(self, happening):
+        some = self.kinds.setdefault(kind_of(happening.placed.command), [0, 0])
+        some[0] += happening.placed.count()
+        some[1] += happening.row is not None
+
+    def count(self):
+        return sum(count for count, _ in self.kinds.values())
+
+    def lines(self):
+        yield f"{plural(self.count(), 'command')}, {sum(with_row for _, with_row in self.kinds.values())} with a row of the command table"
+        for shown, (count, with_row) in sorted(self.kinds.items(), key=lambda item: (-item[1][0], item[0])):
+            yield f"{count:7} {shown}{'' if with_row else ', no row'}"

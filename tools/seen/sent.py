@@ -1,5 +1,6 @@
 """What a row transfer or a fill sends, and how much of it falls beside the page: counted from the fields before it."""
 
+import functools
 from typing import NamedTuple
 
 from model import marks, pages, rows
@@ -22,7 +23,7 @@ class Sent(NamedTuple):
     again: int = 0    # black dots of rows of no bytes, which repeat the row above them
 
     def plus(self, other):
-        return other if self is NOTHING else Sent(*map(sum, zip(self, other)))
+        return other if self is NOTHING else self if other is NOTHING else Sent(*map(sum, zip(self, other)))
 
     def lost(self):
         return self.right + self.below
@@ -30,6 +31,7 @@ class Sent(NamedTuple):
 
 NOTHING = Sent()
 WHOLE_ROW = Sent(rows=1)
+LATE_ROW = Sent(late=1)
 SENDING = ("*bW", "*cP", "*bY")   # those that send, or change what a row is read against
 
 
@@ -47,48 +49,88 @@ def letters(command):
 
 
 class Seed:
-    """The seed row as wide as it was sent. Delta rows wait for their decoding until somebody asks for the dots; how many bytes a row reaches to
-    the right is known at once."""
+    """The seed row as wide as it was sent. Rows wait for their decoding until somebody asks for the dots; how many bytes one reaches to the right at
+    most is known at once."""
 
     def __init__(self):
         self.clear()
 
     def clear(self):
-        self.row, self.waiting, self.reach = bytes(WIDE_BYTES), [], 0
+        self.row, self.waiting, self.reach, self.replaced = WHITE, [], 0, 0
 
     def follow(self, method, data):
         """The next row."""
+        reach = REACHES[method](data)
         if method == rows.DELTA_ROW:
-            self.waiting.append(data)
-            self.reach = max(self.reach, reach_of(data))
+            self.waiting.append((method, data))
+            self.replaced = max(self.replaced, reach)
         else:
-            self.row, self.waiting = rows.decode(method, data, bytes(WIDE_BYTES)), []
-            self.reach = len(self.row.rstrip(b"\0"))
+            self.waiting, self.reach, self.replaced = [(method, data)], reach, 0
+
+    def fits(self, place):
+        """Whether no dot is lost of as many bytes as it may reach; of a row by itself these are counted where it could be too many."""
+        if place.holds(max(self.reach, self.replaced)):
+            return True
+        self.decoded()
+        return place.holds(max(self.reach, self.replaced))
+
+    def is_white(self):
+        return not self.reach and not self.replaced
 
     def count_black(self):
         return int.from_bytes(self.decoded(), "big").bit_count()
 
     def decoded(self):
-        for data in self.waiting:
-            self.row = rows.decode(rows.DELTA_ROW, data, self.row)
+        for method, data in self.waiting:
+            if method == rows.DELTA_ROW:
+                self.row = rows.decode(method, data, self.row)
+            else:
+                self.row = by_itself(method, data)
+                self.reach = len(self.row.rstrip(b"\0"))
         self.waiting = []
         return self.row
 
 
+WHITE = bytes(WIDE_BYTES)
+
+
+@functools.lru_cache(maxsize=16)     # drivers send the same white row again and again
+def by_itself(method, data):
+    return rows.decode(method, data, WHITE)
+
+
 def reach_of(data):
     """How many bytes from the left a delta row replaces at most."""
-    place = reach = 0
-    while place < len(data):
+    place, reach, size = 0, 0, len(data)
+    while place < size:
         code = data[place]
-        place += 1
-        if code & 31 == 31:
-            while place < len(data) and data[place] == 255:
-                reach, place = reach + 255, place + 1
-            reach += data[place] if place < len(data) else 0
+        behind, place = code & 31, place + 1
+        if behind == 31:
+            while place < size and data[place] == 255:
+                behind, place = behind + 255, place + 1
+            behind += data[place] if place < size else 0
             place += 1
-        behind = (code >> 5) + 1
-        reach, place = reach + (code & 31) + behind, place + behind
+        code = (code >> 5) + 1
+        reach, place = reach + behind + code, place + code
     return reach
+
+
+def reach_of_packed(data):
+    """How many bytes a row of method 2 has."""
+    place, reach, size = 0, 0, len(data)
+    while place < size:
+        code = data[place]
+        if code < 128:
+            reach, place = reach + code + 1, place + code + 2
+        elif code == 128:
+            place += 1
+        else:
+            reach, place = reach + 257 - code, place + 2
+    return reach
+
+
+REACHES = {0: lambda data: len(data.rstrip(b"\0")), 1: lambda data: sum(data[:len(data) // 2 * 2:2]) + len(data) // 2,
+           2: reach_of_packed, rows.DELTA_ROW: reach_of}
 
 
 class Watcher:
@@ -110,31 +152,37 @@ class Watcher:
         return NOTHING
 
     def of_rows(self, now, data, marks):
-        if not now["raster_on"] or now.row_count == 0:
+        base = now.base
+        if now.row_count == 0 or not base["raster_on"]:
             self.seed.clear()
-        if self.strip is None or self.strip.base is not now.base:
+        if self.strip is None or self.strip.base is not base:
             self.strip = Strip(now)
-        place, sent = Place(self.strip, now), NOTHING
-        for method, each in rows_of(now["method"], data):
+        place = Place(self.strip, now)
+        if base["method"] != rows.ADAPTIVE:
+            return self.of_row(place, base["method"], data, marks)
+        sent = NOTHING
+        for method, each in rows_of(data):
             if method is None:
                 self.seed.clear()
-                continue
-            if place.is_late():
-                sent = sent.plus(Sent(late=1))
-                continue
-            self.seed.follow(method, each)
-            if method == rows.DELTA_ROW and not each:
-                sent = sent.plus(Sent(again=self.seed.count_black()))
-            sent = sent.plus(WHOLE_ROW if marks and place.holds(self.seed.reach) else place.sent(self.seed.decoded()))
-            place.go_on()
+            else:
+                sent = sent.plus(self.of_row(place, method, each, marks))
         return sent
 
+    def of_row(self, place, method, data, marks):
+        """What the next row sends; of one that marks the page, and loses none, its dots are not counted."""
+        if place.is_late():
+            return LATE_ROW
+        seed = self.seed
+        seed.follow(method, data)
+        again = seed.count_black() if not data and method == rows.DELTA_ROW else 0
+        whole = seed.is_white() or marks and seed.fits(place)
+        sent = WHOLE_ROW if whole else place.sent(seed.decoded())
+        place.go_on()
+        return sent._replace(again=again) if again else sent
 
-def rows_of(method, data):
-    """Method and data of each row of a transfer; a method of None where the seed becomes zero."""
-    if method != rows.ADAPTIVE:
-        yield method, data
-        return
+
+def rows_of(data):
+    """Method and data of each row of adaptive data; a method of None where the seed becomes zero."""
     for block in rows.blocks(data):
         if block.rows == 0:
             yield None, b""
@@ -156,6 +204,8 @@ class Strip:
 
 class Place:
     """Where the next row of a transfer goes."""
+
+    __slots__ = "strip", "y", "count"
 
     def __init__(self, strip, now):
         self.strip, self.y, self.count = strip, now.y, now.row_count

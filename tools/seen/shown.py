@@ -12,14 +12,16 @@ import json
 import sys
 import zlib
 
+from reasons import streams
+
 from . import happenings, png, remarks, sides
-from .explained import of_end, rows
-from .listing import sides as listed_sides
+from .explained import END, rows
 
 ROWS_IN_CHUNK, ENTRIES_IN_CHUNK, BYTES_IN_CHUNK = 500, 500, 1 << 20
 LEVEL = 4
 LONGEST_LINE, LONGEST_REMARK = 120, 1000
-IGNORED, SENDS, REPLIES = 1, 2, 4
+NO_SUCH_VALUE = {"resolution", "method", "value", "PJL value"}    # reasons of a value that a row does not name
+IGNORED, SENDS, REPLIES, WRONG = 1, 2, 4, 8
 MOST_PICTURES = 500
 NONE = -1
 
@@ -53,11 +55,11 @@ class FilmPage:
         self.data, self.chunks = bytearray(), []
         self.hashes = None
 
-    def add(self, entry, patch):
-        rows = bytes.fromhex("".join(patch["rows"]))
-        for some, number in zip(self.boxes, (entry, patch["x"] // 8, patch["y"], len(patch["rows"][0]) // 2, len(patch["rows"]))):
+    def add(self, entry, left, top, rows):
+        """A patch, which begins at this byte and line."""
+        for some, number in zip(self.boxes, (entry, left, top, len(rows[0]), len(rows))):
             some.append(number)
-        self.data += rows
+        self.data += rows[0] if len(rows) == 1 else b"".join(rows)
         while len(self.data) >= BYTES_IN_CHUNK:
             self.chunks.append(packed(bytes(self.data[:BYTES_IN_CHUNK])))
             del self.data[:BYTES_IN_CHUNK]
@@ -91,15 +93,25 @@ class Recorder:
         entry, now = len(self.flags), run.fields.now
         self.follow_page(run, line, entry)
         stack = tuple((body.name(), body.starter.offset) for body in step.stack) if step else ()
-        across, down = happenings.cursor_dot(now)
-        told = (line["step"], line["x"], line["y"], across, down, step.placed.offset if stack else NONE, self.stacks.setdefault(stack, len(self.stacks)),
-                NONE if self.open is None else len(self.pages) - 1, line["sheets"])
-        for some, number in zip(self.columns.values(), told):
-            some.append(number)
+        self.keep_columns(line["step"], now, step.placed.offset if stack else NONE, self.stacks.setdefault(stack, len(self.stacks)))
         self.flags.append(line["depth"] + 8 * ("delivered" in line) + 16 * ("reply" in line) + 32 * ("recorded" in line))
         if "reply" in line:
             self.replies.append([entry, remarks.readable(line["reply"].encode("latin-1"), 400)])
-        self.keep_fields(run, line)
+        self.keep_fields(run, line.get("view", 0))
+
+    def row(self, run, step, now, count, patch):
+        """The same of a row within raster graphics."""
+        if patch:
+            self.open.add(len(self.flags), *patch)
+        self.keep_columns(step, now, NONE, self.stacks.setdefault((), len(self.stacks)))
+        self.flags.append(0)
+        self.keep_fields(run, 0 if count is None else {"raster": {"rows": int(count)}})
+
+    def keep_columns(self, step, now, own, stack):
+        across, down = happenings.cursor_dot(now)
+        told = step, now.x, now.y, across, down, own, stack, NONE if self.open is None else len(self.pages) - 1, now.total
+        for some, number in zip(self.columns.values(), told):
+            some.append(number)
 
     def follow_page(self, run, line, entry):
         patch = line.get("page", ())
@@ -111,13 +123,13 @@ class Recorder:
             self.open.close(entry, run.marks.page)
             self.open = None
         elif patch:
-            self.open.add(entry, patch)
+            self.open.add(entry, patch["x"] // 8, patch["y"], [bytes.fromhex(row) for row in patch["rows"]])
 
-    def keep_fields(self, run, line):
+    def keep_fields(self, run, view):
         """What changed; a chunk begins with all fields."""
         if not self.part:
             self.part.append({name: dict(some) for name, some in run.fields.view.items()})
-        self.part.append(line.get("view", 0))
+        self.part.append(view)
         if len(self.part) > ENTRIES_IN_CHUNK:
             self.end_fields()
 
@@ -133,31 +145,65 @@ class Recorder:
 
 
 class Listing:
-    """The rows of a run, one after another, and for each where it starts and its first entry."""
+    """The rows of a run, one after another, and for each where it starts and its first entry. What is seen of the run is told at its end."""
 
     def __init__(self, run, shift):
         self.run, self.shift = run, shift
         self.starts, self.firsts = array.array("q"), array.array("i")
-        self.entry = sum(1 + each.bodies for each in run.front)
+        self.entry, self.tally, self.seen = None, remarks.Tally(), streams.Seen(run)
 
     def note(self, offset, entries):
+        if self.entry is None:      # behind those of the front
+            self.entry = sum(1 + each.bodies for each in self.run.front)
         self.starts.append(offset + self.shift)
         self.firsts.append(self.entry)
         self.entry += entries
 
+    def see(self, happening, met):
+        self.tally.add(happening)
+        self.seen.add(happening, met)
+
     def texts(self):
-        """Text, remark and flags of each row, and of the end."""
-        for row in rows(self.run):
+        """Of each row, and of the end: text, place, how it is spelled, what it is, its effect, flags, and why it leaves no trace, in a few words."""
+        for row in rows(self.run, self.seen.judge, self.see):
             self.note(row.offset, sum(1 + each.bodies for each in row.happenings))
-            yield [shortened(row.text), shortened(row.remark, LONGEST_REMARK), flags_of(row)]
+            told = row.told._replace(effect=cause_first(row.told.effect, row.because))
+            yield [shortened(row.text), *(shortened(part, LONGEST_REMARK) for part in told), flags_of(row), cause_of(row.met)]
         self.note(len(self.run.stream), 1)
-        yield ["the end of the stream (the press adds: uel)", of_end(self.run), flags_of_end(self.run)]
+        yield ["uel", str(len(self.run.stream)), "", END, remarks.effect_of(self.run.end), flags_of_end(self.run), ""]
+
+    def row_of(self, place):
+        """The row in which a byte of the stream stands."""
+        return max(0, bisect.bisect_right(self.starts, place + self.shift) - 1)
+
+    def findings(self, name):
+        """What is wrong with the stream, each with its row."""
+        other = streams.of_kind(name, self.run.stream)
+        found = self.seen.findings(name)
+        for finding in [other] if other else found:
+            sentence = finding.sentence.removeprefix(name + " ")
+            yield {"sentence": sentence[:1].upper() + sentence[1:], "advice": finding.advice, "grade": finding.grade(),
+                   "row": None if finding.place is None else self.row_of(finding.place), "side": None if finding.page is None else finding.page - 1}
+
+
+def cause_first(effect, because):
+    """An effect, with what is wrong with it in front."""
+    behind = f"; {because}"
+    return f"{because}; {effect.removesuffix(behind)}" if because and effect.endswith(behind) else effect
+
+
+def cause_of(met):
+    if met is None:
+        return ""
+    return "no such value" if met[0].name in NO_SUCH_VALUE else met[0].name
 
 
 def flags_of(row):
     first = row.happenings[0]
     ignored = first.how in ("no row", "HP-GL/2")
-    return IGNORED * ignored + SENDS * any(each.sheets for each in row.happenings) + REPLIES * any(each.replies for each in row.happenings)
+    wrong = row.met is not None and not row.met[0].harmless
+    return (IGNORED * ignored + SENDS * any(each.sheets for each in row.happenings) + REPLIES * any(each.replies for each in row.happenings)
+            + WRONG * wrong)
 
 
 def shortened(line, most=LONGEST_LINE):
@@ -193,17 +239,18 @@ def side_value(run, recorder, number, data, each):
 def data_of(stream, front, chosen, name):
     """All that the page shows, as one value."""
     recorder = Recorder()
-    run = happenings.Run(stream, front=front, together=True, chosen=chosen, watch=recorder)
-    recorder.end()
+    run = happenings.Run(stream, front=front, chosen=chosen, watch=recorder)
     listed = Listing(run, len(front))
     texts = list(chunked(listed.texts(), ROWS_IN_CHUNK))
+    recorder.end()
+    findings = list(listed.findings(name))
     starts, columns = listed.starts, recorder.columns
     columns["own"] = [NONE if offset < 0 else bisect.bisect_right(starts, offset) - 1 for offset in columns["own"]]
     printed = [side_value(run, recorder, number, data, each)
-               for number, (data, each) in enumerate(zip(sides.packed_sides(run), listed_sides(run)))]
+               for number, (data, each) in enumerate(zip(sides.packed_sides(run), listed.seen.sides.found))]
     return {
         "name": name,
-        "facts": f"{remarks.plural(len(stream), 'byte')}, {remarks.plural(sum(each.placed.count() for each in run.happenings), 'command')}, "
+        "facts": f"{remarks.plural(len(stream), 'byte')}, {remarks.plural(listed.tally.count(), 'command')}, "
                  f"{remarks.plural(sum(copies for _, _, _, copies in run.pages_of_sides()), 'side')}; "
                  f"pages printed by {sides.who(run)}, steps told by {run.who}",
         "rows": {"count": len(starts), "size": ROWS_IN_CHUNK, "chunks": texts, "first": column(listed.firsts)},
@@ -213,7 +260,9 @@ def data_of(stream, front, chosen, name):
         "pages": [page.value() for page in recorder.pages],
         "sides": printed,
         "replies": recorder.replies,
-        "start": happenings.power_on()["view"],
+        "start": happenings.power_on(chosen)["view"],
+        "findings": findings,
+        "words": remarks.field_words(),
     }
 
 

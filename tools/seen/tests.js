@@ -57,6 +57,20 @@ async function films() {
   same(Array.from(many.keys.keys()), [512, 1024, 1536], "and is kept now and then");
 }
 
+// What a row and a field are told as.
+function words() {
+  const row = ["par *t600R", "9", "ESC*t600R", "Raster Graphics Resolution, 600 dots per inch", "changes nothing", 8, "no such value"];
+  const text = ["brk 4142", "3 to 4", "", '2 bytes of text, "AB"', "no row: text leaves no marks", 9, "text"];
+  same(list.partsOf(row), {title: "ESC*t600R", what: row[3], effect: "changes nothing", flags: 8, cause: "no such value"}, "the parts of a row");
+  same(list.partsOf(text), {title: text[3], what: "", effect: text[4], flags: 9, cause: "text"}, "and of text, which has no spelling");
+  same(list.remarkOf(row), "at 9, ESC*t600R: Raster Graphics Resolution, 600 dots per inch: changes nothing", "a remark, as explain writes it");
+  same(list.remarkOf(text), 'at 3 to 4: 2 bytes of text, "AB": no row: text leaves no marks', "and of text");
+  const now = {page: {resolution: 600}}, shown = (value, ...word) => Object.values(list.fieldText(value, ["", ...word], now)).join("");
+  same([shown(7200, "position", {}), shown(6, "position", {}), shown(-12, "position", {})], ["600 dots (7,200)", "0.5 dots (6)", "-1 dot (-12)"], "places in dots of the page");
+  same([shown(2, "", {2: "Letter"}), shown(24, "units", {}), shown(300, "dots per inch", {}), shown(5, "", {})], ["Letter", "300 per inch", "300 dots per inch", "5"], "values and units");
+  same([shown(null, "", {}), shown(true, "", {}), shown(false, "", {}), shown([[1, 2], [3, 4]], "", {}), shown([], "", {})], ["none", "on", "off", "1, 2; 3, 4", "none"], "others");
+}
+
 function shades() {
   const bits = Uint8Array.from([0xF0, 0x01, 0x0F, 0x80]), made = (...words) => Array.from(dots.shades(bits, 2, ...words).made);
   same(made(0, 0, 16, 2, 8), [40, 40], "blocks of 8 by 8 with a few dots are seen");
@@ -124,6 +138,7 @@ async function main() {
   }
   await packing();
   await films();
+  words();
   shades();
   places();
   lists();

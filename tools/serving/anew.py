@@ -60,27 +60,35 @@ def look(stream, front, folder, most):
 
 
 def run_of(stream, front):
-    """A run, and the binding of each sheet as it goes out."""
+    """A run, and the binding of each sheet as it goes out, which is known when the run was read."""
     bindings = {}
 
     def watch(_, line, step):
         if line.get("delivered") and step is not None and step.before["duplex"]:
             bindings[line["sheets"] - line["delivered"] + 1] = step.before["binding"]
 
-    return happenings.Run(stream, front=front, together=True, watch=watch), bindings
+    return happenings.Run(stream, front=front, watch=watch), bindings
+
+
+def bindings_of(stream):
+    run, bindings = run_of(stream, b"")
+    run.read()
+    return bindings
 
 
 def left_out(run):
     """Sentences about what the press leaves out and a printer might not, also where a macro has it."""
     judge, found = Judge(run), {}
-    for happening in map(as_run, run.happenings):
+    for happening in run:
+        judge.see(happening)
+        happening = as_run(happening)
         for name in LEFT_OUT:
             key = BY_NAME[name].met(judge, happening)
             if key is not None and not is_space(run, happening):
-                found.setdefault((LEFT_OUT.index(name), key), []).append(happening)
+                place = LEFT_OUT.index(name), key
+                found.setdefault(place, Group(BY_NAME[name], key, happening)).add(happening)
                 break
-    for (place, key), some in sorted(found.items(), key=lambda item: item[0][0]):
-        group = Group(BY_NAME[LEFT_OUT[place]], key, some)
+    for _, group in sorted(found.items(), key=lambda item: item[0][0]):
         yield f"it {group.told(judge)}"
 
 
@@ -179,7 +187,7 @@ def compare(seen, stream, folder, front):
                 raise Refused(f"what was made anew has other dots on {old.stem}")
             new.unlink()
     numbers = {number for number, *_ in listing.LINE.findall(seen.printed.listing)}
-    if len(numbers) < len(seen.printed.names) and two_sided(seen.bindings, seen.sheets) != two_sided(run_of(stream, b"")[1], seen.sheets):
+    if len(numbers) < len(seen.printed.names) and two_sided(seen.bindings, seen.sheets) != two_sided(bindings_of(stream), seen.sheets):
         raise Refused("what was made anew binds its sheets at another edge")
 
 
