@@ -12,7 +12,7 @@ use Rattle.press_bits.specs.Mark.{row_dot, byte_dot}
 use Rattle.press_bits.specs.Lines.{bytes_per_line}
 use Rattle.press_bits.specs.Bands.{BandedPage, banded, band_at}
 use Rattle.press_bits.specs.Patches.{ChangedIn, LiesOn}
-use Rattle.press_bits.specs.Changes.{Covers, IsSpan, is_in_any}
+use Rattle.press_bits.specs.Changes.{Covers, EndsAbove, IsSpan, is_in_any}
 use Rattle.press_bits.specs.declared.region.Region.{Region}
 use Rattle.press_bits.proofs.ByteLemmas.{row_dot-of_byte}
 use Rattle.press_bits.proofs.CountLemmas.{bit_test}
@@ -139,3 +139,21 @@ covers_all before after region y covers all wide high none_before none_after = o
       lies = lies;
       real = real refl;
     }
+
+-- where the lines that are not covered agree
+pub covers_rest : (before after : Page) (region : Option Region) (y : ℕ) → Covers before after region y →
+    ((x n : ℕ) → x < before.width → n < before.height → y ≤ n → black_at after x n ≡ black_at before x n) → Covers before after region (y + before.height)
+covers_rest before after region y covers agree = record {
+  outside = λ x n right below _ out.
+      elim (cases_lt n y) [
+        | inl low ↦ covers.outside x n right below low out
+        | inr from ↦ agree x n right below from
+      ];
+  lies = covers.lies;
+  above = further region covers.above;
+  real = covers.real;
+}
+  where
+    further : (region : Option Region) → IfSome region (EndsAbove y) → IfSome region (EndsAbove (y + before.height))
+    further None above = above
+    further (Some region) above = (above.0, omega (arith, above.1))

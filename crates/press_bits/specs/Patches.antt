@@ -1,5 +1,5 @@
 -- Where a page differs from another, and patches: what stands there in the later one.
-use Rattle.std.specs.Prelude.{◌≡◌, ◌≢◌, ℕ, ◌-◌, ◌*◌, ◌<◌, ◌≤◌, Bool, true, false, ◌&&◌, nat_le, nat_lt, if◌then◌else◌, List, [], ◌∷◌, slice_index_or, take, drop}
+use Rattle.std.specs.Prelude.{◌≡◌, ◌≢◌, ◌⊎◌, ℕ, ◌-◌, ◌*◌, ◌<◌, ◌≤◌, Bool, true, false, ◌&&◌, nat_le, nat_lt, if◌then◌else◌, List, [], ◌∷◌, slice_index_or, take, drop}
 use Rattle.press_bits.specs.Page.{Page, HasNoDotOutside, black_at, page_where}
 use Rattle.press_bits.specs.Mark.{row_dot}
 use Rattle.press_bits.specs.Lines.{bytes_per_line, IsPageLine}
@@ -28,6 +28,11 @@ pub record ChangedIn (before after : Page) (region : Region) : Type 0 where
   pub differ : DifferIn before after region
   pub lies : LiesOn before region
   pub real : before ≢ after
+
+-- The pages agree above a line, and from another one on.
+abbrev pub AgreeBeside : (first end : ℕ) → (before after : Page) → Type 0
+AgreeBeside first end before after = (x y : ℕ) → x < before.width → y < before.height → (y < first) ⊎ (end ≤ y)
+    → black_at after x y ≡ black_at before x y
 
 -- A patch: a region, and a row of bytes for each of its lines, from the top.
 pub record Patch : Type 0 where

@@ -5,7 +5,7 @@ ghost use Rattle.std.specs.Prelude.{◌≡◌, ℕ, ◌+◌, ◌-◌, ◌*◌, �
 ghost use Rattle.press_bits.specs.Page.{Page, HasNoDotOutside};
 ghost use Rattle.press_bits.specs.Lines.{bytes_per_line};
 ghost use Rattle.press_bits.specs.Bands.{AreReady, band_lines};
-ghost use Rattle.press_bits.specs.Patches.{ChangedIn, LiesOn, is_in};
+ghost use Rattle.press_bits.specs.Patches.{AgreeBeside, ChangedIn, LiesOn, is_in};
 ghost use Rattle.press_bits.specs.Changes.{Covers, EndsAbove, is_in_any, with_lines};
 
 use crate::bands::{BAND, Bands, MAX_SIDE};
@@ -95,6 +95,24 @@ pub(crate) fn changed(before: &Bands, after: &Bands) -> Option<Region>
     let mut region = None;
     for band in 0..count {
         region = with_band(before, after, height, region, band);
+    }
+    region
+}
+
+/// The region in which a page differs from an earlier one of its size that agrees above line `first` and from line `end` on; none
+/// where they are equal. No other line is looked at.
+pub(crate) fn changed_between(before: &Bands, after: &Bands, first: u32, end: u32) -> Option<Region>
+    requires width { after.now.page.width ≡ before.now.page.width }
+    requires height { after.now.page.height ≡ before.now.page.height }
+    requires beside { AgreeBeside first end before.now.page after.now.page }
+    ensures { MatchOption result (before.now.page ≡ after.now.page)
+        (λ region. ChangedIn before.now.page after.now.page region) }
+{
+    let height = before.height();
+    let _ = after.height();
+    let mut region = None;
+    for y in first..end.min(height) {
+        region = with_line(before, after, region, y);
     }
     region
 }

@@ -1,4 +1,4 @@
-use Rattle.std.proofs.Common.{◌≡◌, ℕ, ◌+◌, ◌-◌, ◌*◌, ◌/◌, ◌^◌, ◌<◌, Bool, true, false, ap, sym, ◌∙◌, arith}
+use Rattle.std.proofs.Common.{◌≡◌, ℕ, ◌+◌, ◌-◌, ◌*◌, ◌/◌, ◌^◌, Bool, false, ap, sym, ◌∙◌, arith}
 use Rattle.press_bits.specs.Mark.{row, row_dot, repeated}
 use Rattle.press_bits.specs.Words.{word_dot}
 use Rattle.press_bits.specs.DotRows.{mixed_dot}
