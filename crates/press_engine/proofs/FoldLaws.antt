@@ -7,9 +7,8 @@ use Rattle.press_table.specs.declared.effect.Source.TheVariants as sources
 use Rattle.press_table.specs.Calls.{overlay_body}
 use Rattle.press_table.specs.Outcome.{Effect, Changes, MayAllocate, GivesReply, Stays, Closes, Starts}
 use Rattle.press_table.specs.Table.{effect_on}
-use Rattle.press_engine.specs.declared.activation.Activation.{Activation}
 use Rattle.press_engine.specs.declared.machine.Machine.{Machine}
-use Rattle.press_engine.specs.Begun.{Begun, begun_in_overlay, begun_outside, begun_close}
+use Rattle.press_engine.specs.Begun.{begun_in_overlay, begun_outside, begun_close}
 use Rattle.press_engine.specs.Fold.{fold, effect_in_overlay, whole_in_overlay, close_behind, close_whole, effect_whole, effect_outside, whole_at, run, run_all}
 use Rattle.press_engine.specs.Laws.{Tells, TraceTellsTheRun, TraceGoesOn, OneStepIsTheRun}
 use Rattle.press_engine.specs.Machine.{StepResult, silent, then_run, with_state, taken, enter_body, leave_body, state_of}

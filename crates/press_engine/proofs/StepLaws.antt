@@ -1,22 +1,22 @@
 -- Each item of a trace is one step, and the first of a command takes that command.
-use Rattle.std.proofs.Common.{◌≡◌, ◌∙◌, List, [], ◌∷◌, ◌++◌, false, refl, subst}
+use Rattle.std.proofs.Common.{◌≡◌, ◌∙◌, List, [], ◌∷◌, ◌++◌, true, false, refl, subst}
 use Rattle.press_cmd.specs.Kinds.{kind_of}
 use Rattle.press_cmd.specs.Token.{Token}
 use Rattle.press_engine.specs.declared.activation.Activation.{Activation}
 use Rattle.press_engine.specs.declared.machine.Machine.{Machine}
 use Rattle.press_table.specs.declared.state.State.{State}
 use Rattle.press_table.specs.Outcome.{Effect, Changes, MayAllocate, GivesReply, Stays, Closes, Starts}
-use Rattle.press_table.specs.PageKept.{PageStays, kind_may_change_page}
+use Rattle.press_table.specs.PageKept.{KeepsOtherLines, OtherLinesStay, PageStays, kind_may_change_page, kind_transfers_rows}
 use Rattle.press_table.specs.Table.{effect_on}
 use Rattle.press_engine.specs.Begun.{Begun, end_of, begun_only, begun_outside}
 use Rattle.press_engine.specs.Machine.{StepResult, silent, with_state, taken, last_of, macro_levels, source_at}
-use Rattle.press_engine.specs.PageKept.{TakesFirst, OthersKeepThePage}
+use Rattle.press_engine.specs.PageKept.{TakesFirst, OthersKeepThePage, RowsKeepOtherLines}
 use Rattle.press_engine.specs.Stack.{items_in}
 use Rattle.press_engine.specs.Steps.{CountFrom}
 use Rattle.press_engine.specs.Trace.{last_machine, with_end, trace_each, begun_items, inside_of, trace_at}
 use Rattle.press_engine.proofs.BegunLemmas.{end-last, end-step}
 use Rattle.press_engine.proofs.CommandItems.{Taking, taking, taking_in, now, begins_at, StartsIn, command-all}
-use Rattle.press_table.proofs.PageKeptLemmas.{row_keeps_the_page}
+use Rattle.press_table.proofs.PageKeptLemmas.{row_keeps_other_lines, row_keeps_the_page}
 
 append-counts : (items others : List StepResult) (machine : Machine) → CountFrom machine items → CountFrom (last_machine machine items) others → CountFrom machine (items ++ others)
 append-counts [] others machine count more = more
@@ -85,3 +85,26 @@ page-kept command machine keeps =
 
 pub others_keep_the_page : OthersKeepThePage
 others_keep_the_page = record { takes = λ command machine. (at-counts command machine).1; keeps = page-kept }
+
+-- ---- a command whose row keeps lines
+
+begun-lines : (machine : Machine) (before : State) (effect : Effect) → OtherLinesStay before effect
+    → (item : StepResult)
+    × (begun_items (inside_of (trace_at 1)) (begun_outside macro_levels machine effect) ≡ item ∷ [])
+    × KeepsOtherLines before item.machine.state
+begun-lines machine before (Changes state) stay = (silent (with_state state machine), refl, stay)
+begun-lines machine before (MayAllocate state) stay = (silent (with_state state machine), refl, stay)
+begun-lines machine before (GivesReply reply state) stay = absurd stay
+begun-lines machine before (Stays cause state) stay = absurd stay
+begun-lines machine before (Closes cause state) stay = absurd stay
+begun-lines machine before (Starts commands end state) stay = absurd stay
+
+lines-kept : (command : Token) (machine : Machine) → kind_transfers_rows (kind_of command) ≡ true
+    → (item : StepResult) × (trace_at macro_levels command machine ≡ item ∷ []) × KeepsOtherLines machine.state item.machine.state
+unfolding trace_at
+lines-kept command machine rows =
+    begun-lines (taken command machine) machine.state (effect_on (source_at macro_levels) command machine.state)
+    (row_keeps_other_lines (source_at macro_levels) command machine.state rows)
+
+pub rows_keep_other_lines : RowsKeepOtherLines
+rows_keep_other_lines = record { keeps = lines-kept }

@@ -1,7 +1,7 @@
 //! What the trace of commands, a table step an item, has to do with carrying them out whole.
 
 ghost use Rattle.press_engine.specs.Laws.{TraceTellsTheRun, TraceGoesOn, OneStepIsTheRun, AtMostFourBodies};
-ghost use Rattle.press_engine.specs.PageKept.{OthersKeepThePage};
+ghost use Rattle.press_engine.specs.PageKept.{OthersKeepThePage, RowsKeepOtherLines};
 ghost use Rattle.press_engine.specs.Passing.{PassingIsCounted};
 ghost use Rattle.press_engine.specs.Stepping.{InnerStepIsOwed, OuterStepIsOwed};
 ghost use Rattle.press_engine.specs.Steps.{EachItemIsOneStep};
@@ -40,6 +40,12 @@ pub fn each_item_is_one_step()
 /// A command of the stream whose row marks and closes no page and starts no body has one item, which leaves the open page as it is.
 pub fn others_keep_the_page()
     ensures { OthersKeepThePage }
+{}
+
+/// A command of the stream that transfers rows has one item. Where the page stands upright, it leaves the lines above the cursor before it
+/// as they are, and those below the dots of a row at the cursor behind it.
+pub fn rows_keep_other_lines()
+    ensures { RowsKeepOtherLines }
 {}
 
 /// Commands of the stream that have no effect, one after another, leave as many steps more and the kind of the last of them, and

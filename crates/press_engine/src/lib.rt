@@ -16,6 +16,6 @@ mod view;
 pub use engine::Engine;
 pub use fault::{EngineError, FAILED};
 pub use machine::Last;
-pub use press_table::{Drawing, FinishedSheet, Rectangle, Sent, may_change_page};
+pub use press_table::{Drawing, FinishedSheet, Rectangle, Sent, may_change_page, transfers_rows};
 pub use step_output::StepOutput;
 pub use view::View;

@@ -93,12 +93,12 @@ lines_apart print.Dpi600 h a b l least most = (omega (arith, least, most), omega
 -- ---- a move down
 
 -- how far a position lies below the upper edge; above it, 0
-abbrev below_edge : ℤ → ℕ
+abbrev pub below_edge : ℤ → ℕ
 below_edge (pos n) = n
 below_edge (negsuc n) = 0
 
 -- it is the position, or the position lies above the edge
-below_edge_is : (z : ℤ) → ((int_le (pos 0) z ≡ true) × (z ≡ pos (below_edge z))) ⊎ ((int_lt z (pos 0) ≡ true) × (below_edge z ≡ 0))
+pub below_edge_is : (z : ℤ) → ((int_le (pos 0) z ≡ true) × (z ≡ pos (below_edge z))) ⊎ ((int_lt z (pos 0) ≡ true) × (below_edge z ≡ 0))
 below_edge_is (pos n) = inl (grind (arith, ints), refl)
 below_edge_is (negsuc n) = inr (grind (arith, ints), refl)
 
@@ -114,12 +114,12 @@ moved_edge y h page =
 -- ---- rows one below the other
 
 -- the first line of the frame that is covered from a position on, and how many there are
-first_line : (y : ℤ) (page : Resolution) (size : ℕ) → (lines_below (dot_of y page) size).first ≡ below_edge y / positions_per_dot page
+pub first_line : (y : ℤ) (page : Resolution) (size : ℕ) → (lines_below (dot_of y page) size).first ≡ below_edge y / positions_per_dot page
 first_line (pos n) page size = refl
 first_line (negsuc n) print.Dpi300 size = refl
 first_line (negsuc n) print.Dpi600 size = refl
 
-no_more_lines : (line : ℤ) (size : ℕ) → (lines_below line size).count ≤ size
+pub no_more_lines : (line : ℤ) (size : ℕ) → (lines_below line size).count ≤ size
 no_more_lines (pos n) size = omega arith
 no_more_lines (negsuc n) size = omega arith
 

@@ -27,10 +27,10 @@ frame_of orientation width height = turned orientation (record { width = width; 
 
 module _ (orientation : Orientation) (width height : ℕ) where
   -- the column and the line of the frame at a dot of the page
-  abbrev column_at : (x y : ℕ) → ℕ
+  abbrev pub column_at : (x y : ℕ) → ℕ
   column_at x y = (placed_dot orientation width height x y).0
 
-  abbrev line_at : (x y : ℕ) → ℕ
+  abbrev pub line_at : (x y : ℕ) → ℕ
   line_at x y = (placed_dot orientation width height x y).1
 
   -- what a strip does to a dot of the page

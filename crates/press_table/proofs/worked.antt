@@ -1,2 +1,3 @@
 -- Worked rows.
 pub mod Rectangles
+pub mod RowLines

@@ -24,6 +24,6 @@ mod state;
 pub use calls::SavedEnvironment;
 pub use drawing::Drawing;
 pub use effect::{BodyEnd, BodyStart, Effect, EjectCause, FinishedSheet, Sent, Source};
-pub use page_kept::may_change_page;
+pub use page_kept::{may_change_page, transfers_rows};
 pub use rectangle::Rectangle;
 pub use state::State;

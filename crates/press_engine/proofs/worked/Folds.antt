@@ -1,6 +1,6 @@
 -- Worked streams of macros and the overlay, computed on the fold from power on, without a word of the trace. What is found under a
 -- macro ID does not compute: at each command that looks a macro up it is put in by what a map says of it.
-use Rattle.std.proofs.Common.{◌≡◌, ◌∙◌, ℕ, suc, false, true, List, [], ◌∷◌, ◌++◌, Option, Some, None, refl, sym, ap}
+use Rattle.std.proofs.Common.{◌≡◌, ◌∙◌, ℕ, suc, false, true, List, [], ◌∷◌, ◌++◌, Some, refl, sym, ap}
 use Rattle.std.proofs.lemmas.List.{append_assoc, append-nil}
 use Rattle.press_cmd.specs.Token.{Token, Uel}
 use Rattle.press_cmd.specs.Kinds.{kind_of}

@@ -1,4 +1,4 @@
-use Rattle.std.proofs.Common.{◌≡◌, ◌∙◌, ◌∷◌, ◌-◌, inl, inr, refl, sym, ap, subst, subst₂, slice_set, reverse}
+use Rattle.std.proofs.Common.{◌∙◌, ◌∷◌, ◌-◌, inl, inr, refl, sym, ap, subst, subst₂, slice_set, reverse}
 use Rattle.press_table.specs.Effects.{effect_of}
 use Rattle.press_table.specs.Memory.{TakesMemory}
 use Rattle.press_engine.specs.declared.activation.Activation.{Activation}
