@@ -1,5 +1,6 @@
 -- A step that was taken, and what is told of it.
-use Rattle.std.proofs.Common.{◌≡◌, ◌∙◌, ◌≤◌, ◌||◌, ◌↔◌, not, ℕ, List, [], ◌∷◌, length, Bool, true, false, cond, Option, Some, None, IsSome, IsTrue, Ok, is_some, refl, sym, ap, subst, inl, inr, arith}
+use Rattle.std.proofs.Common.{◌≡◌, ◌∙◌, ◌≤◌, ◌&&◌, ◌↔◌, not, ℕ, List, [], ◌∷◌, length, Bool, true, false, cond, Option, Some, None, IfSome, IsSome, IsTrue, Ok, is_some, refl, sym, ap, subst, inl, inr, arith}
+use Rattle.std.specs.Prelude.{if◌then◌else◌}
 use Rattle.std.proofs.lemmas.Bool.{true≢false, false≢true}
 use Rattle.serde_json.specs.Data.{Data}
 use Rattle.press_bits.specs.Page.{Page}
@@ -13,10 +14,11 @@ use Rattle.press_engine.specs.declared.machine.Last.{Last}
 use Rattle.press_engine.specs.declared.machine.Last.TheVariants as lasts
 use Rattle.press_engine.specs.declared.machine.Machine.{Machine}
 use Rattle.press_engine.specs.declared.view.View.{View}
-use Rattle.press_engine.specs.Engine.{IsOfKind}
+use Rattle.press_engine.specs.Engine.{IsOfKind, view_of}
 use Rattle.press_engine.specs.Machine.{StepResult, last_of, macro_levels}
-use Rattle.press_table.specs.PageKept.{kind_may_change_page}
-use Rattle.press_engine.specs.PageKept.{TakesFirst, OthersKeepThePage}
+use Rattle.press_table.specs.PageKept.{KeepsOtherLines, kind_may_change_page, kind_transfers_rows, row_line}
+use Rattle.press_table.specs.declared.state.State.{State}
+use Rattle.press_engine.specs.PageKept.{TakesFirst, OthersKeepThePage, RowsKeepOtherLines}
 use Rattle.press_engine.specs.Stack.{HasNext, continuation}
 use Rattle.press_table.specs.Table.{is_recorded}
 use Rattle.press_engine.specs.Trace.{trace_at}
@@ -31,10 +33,11 @@ use Rattle.press_trace.specs.declared.place.Place.{Place}
 use Rattle.press_trace.specs.declared.seen.Seen.{Seen}
 use Rattle.press_trace.specs.declared.sent.WentOut.{WentOut}
 use Rattle.press_trace.specs.Lines.{IsLine, IsViewOf, IsViewIf, line_members, line_text, page_if}
-use Rattle.press_trace.specs.Pages.{IsPageTold}
+use Rattle.press_trace.specs.Pages.{IsPageTold, KeepsRest}
 use Rattle.press_trace.specs.Seen.{IsAlike, IsAlikeIf}
 use Rattle.press_trace.specs.Sent.{AreOut}
-use Rattle.press_trace.specs.Tracing.{IsKept, Keeps, place_if, place_of}
+use Rattle.press_trace.specs.Tracing.{IsKept, Keeps, lines_between, place_if, place_of, touched_by}
+use Rattle.press_trace.specs.declared.touched.Touched.TheVariants.{Nothing, Whole}
 
 -- ---- the page
 
@@ -142,32 +145,95 @@ kind_taken : (recorded : Bool) (command : Token) (kind : Kind) → IsOfKind (con
 kind_taken true command kind is = is
 kind_taken false command kind is = is
 
+-- a command of the stream that has one item took it, and is of its kind
+first_of : OthersKeepThePage
+    → (old new : JobState) (item : StepResult) (kind : Kind) (does : Does old item kind new) (command : Token) → does.given ≡ command ∷ []
+    → old.bodies ≡ [] → (kind ≡ kind_of command) × (trace_at macro_levels command does.from ≡ item ∷ continuation new.bodies item.machine)
+first_of law old new item kind does command is idle =
+    let owes : trace_at macro_levels command does.from ≡ item ∷ continuation new.bodies item.machine =
+    sym (left-one command does.from) ∙ (λ i. left (sym is i) (sym idle i) does.from) ∙ does.are in
+    let took : item.machine.last ≡ last_of command does.from.state = subst (TakesFirst (last_of command does.from.state)) owes (law.takes command does.from) in
+    (kind_taken (is_recorded command does.from.state) command kind (subst (λ (last : Last). IsOfKind last kind) took does.is_kind), owes)
+
 -- a command of the stream of a kind that changes no page
 command_keeps : OthersKeepThePage
     → (old new : JobState) (item : StepResult) (kind : Kind) (does : Does old item kind new) (command : Token) → does.given ≡ command ∷ []
     → old.bodies ≡ [] → kind_may_change_page kind ≡ false → item.machine.state.page ≡ does.from.state.page
 command_keeps law old new item kind does command is idle keeps =
-    let owes : trace_at macro_levels command does.from ≡ item ∷ continuation new.bodies item.machine =
-    sym (left-one command does.from) ∙ (λ i. left (sym is i) (sym idle i) does.from) ∙ does.are in
-    let took : item.machine.last ≡ last_of command does.from.state = subst (TakesFirst (last_of command does.from.state)) owes (law.takes command does.from) in
-    let same : kind ≡ kind_of command = kind_taken (is_recorded command does.from.state) command kind (subst (λ (last : Last). IsOfKind last kind) took does.is_kind) in
-    let only = law.keeps command does.from (ap kind_may_change_page (sym same) ∙ keeps) in
-    let first : item ≡ only.0 = cc in
-    ap (λ (one : StepResult). one.machine.state.page) first ∙ only.2
+    let first = first_of law old new item kind does command is idle in
+    let only = law.keeps command does.from (ap kind_may_change_page (sym first.0) ∙ keeps) in
+    let same : item ≡ only.0 = cc in
+    ap (λ (one : StepResult). one.machine.state.page) same ∙ only.2
 
-outside_if : (outside changes : Bool) → not outside || changes ≡ false → (outside ≡ true) × (changes ≡ false)
-outside_if true changes none = (refl, none)
-outside_if false changes none = absurd (true≢false none)
+-- a command of the stream that transfers rows
+command_keeps_lines : OthersKeepThePage → RowsKeepOtherLines
+    → (old new : JobState) (item : StepResult) (kind : Kind) (does : Does old item kind new) (command : Token) → does.given ≡ command ∷ []
+    → old.bodies ≡ [] → kind_transfers_rows kind ≡ true → KeepsOtherLines does.from.state item.machine.state
+command_keeps_lines law rows old new item kind does command is idle transfers =
+    let first = first_of law old new item kind does command is idle in
+    let only = rows.keeps command does.from (ap kind_transfers_rows (sym first.0) ∙ transfers) in
+    let same : only.0 ≡ item = cc in
+    subst (λ (one : StepResult). KeepsOtherLines does.from.state one.machine.state) same only.2
 
-pub page_stays : OthersKeepThePage
-    → (old new : JobState) (item : StepResult) (kind : Kind) (does : Does old item kind new) (outside : Bool)
-    → IsTrue outside ↔ (old.bodies ≡ []) → not outside || kind_may_change_page kind ≡ false
-    → item.machine.state.page ≡ does.from.state.page
-page_stays law old new item kind does outside tells none = by does.takes where
-  where_it_is : (outside ≡ true) × (kind_may_change_page kind ≡ false)
-  where_it_is = outside_if outside (kind_may_change_page kind) none
+-- a step outside of bodies takes a command of the stream, or the exit at its end
+outer_step : (P : Type 0) (old new : JobState) (item : StepResult) (kind : Kind) (does : Does old item kind new) → old.bodies ≡ []
+    → ((command : Token) → does.given ≡ command ∷ [] → P) → P
+outer_step P old new item kind does idle by = takes does.takes where
+  takes : TakesGiven old does.given new → P
+  takes (inl (inside, nothing, held, exited)) = absurd (none_runs old.bodies inside idle)
+  takes (inr (inl (command, is, idle, going, still, passes))) = by command is
+  takes (inr (inr (is, idle, going, out, held, ended, done))) = by Uel is
 
-  by : TakesGiven old does.given new → item.machine.state.page ≡ does.from.state.page
-  by (inl (inside, nothing, held, exited)) = absurd (none_runs old.bodies inside (tells.0 where_it_is.0))
-  by (inr (inl (command, is, idle, going, still, passes))) = command_keeps law old new item kind does command is idle where_it_is.1
-  by (inr (inr (is, idle, going, out, held, ended, done))) = command_keeps law old new item kind does Uel is idle where_it_is.1
+both_hold : (a b : Bool) → (a && b) ≡ true → (a ≡ true) × (b ≡ true)
+both_hold true b is = (refl, is)
+both_hold false b is = absurd (true≢false (sym is))
+
+not_true : (b : Bool) → not b ≡ true → b ≡ false
+not_true true is = absurd (true≢false (sym is))
+not_true false is = refl
+
+-- a line that was found is that of a row at the cursor
+abbrev pub IsLineAt : Option ℕ → State → Type 0
+IsLineAt found state = IfSome found (λ line. row_line state.environment state.cursor.y ≡ Some line)
+
+pub line_at : (found : Option ℕ) (view : View) (given : Option Machine) (machine : Machine) → IfSome found (λ line. row_line view.environment view.y.0 ≡ Some line)
+    → IfSome given (λ machine. view ≡ view_of view.stack machine) → given ≡ Some machine → IsLineAt found machine.state
+line_at None view given machine at is here = tt
+line_at (Some line) view given machine at is here =
+    let same : view ≡ view_of view.stack machine = subst (λ (some : Option Machine). IfSome some (λ machine. view ≡ view_of view.stack machine)) here is in
+    ap (λ (one : View). row_line one.environment one.y.0) (sym same) ∙ at
+
+lines_kept : (before behind : Option ℕ) (old new : State) → IsLineAt before old → IsLineAt behind new
+    → KeepsOtherLines old new → KeepsRest (lines_between before behind) old.page new.page
+lines_kept (Some first) (Some last) old new one other keeps = λ page next is next_is. keeps first last page next one other is next_is
+lines_kept (Some first) None old new one other keeps = tt
+lines_kept None behind old new one other keeps = tt
+
+-- what a step leaves of the page
+pub rest_is_kept : OthersKeepThePage → RowsKeepOtherLines
+    → (old new : JobState) (item : StepResult) (kind : Kind) (does : Does old item kind new) (outside : Bool) (before behind : Option ℕ)
+    → IsTrue outside ↔ (old.bodies ≡ [])
+    → IsLineAt before does.from.state → IsLineAt behind item.machine.state
+    → KeepsRest (touched_by outside kind before behind) does.from.state.page item.machine.state.page
+rest_is_kept law rows old new item kind does outside before behind tells one other =
+    either (outside && not (kind_may_change_page kind)) (outside && kind_transfers_rows kind)
+    (λ is. let holds = both_hold outside (not (kind_may_change_page kind)) is in kept (tells.0 holds.0) (not_true (kind_may_change_page kind) holds.1))
+    (λ is. let holds = both_hold outside (kind_transfers_rows kind) is in lines (tells.0 holds.0) holds.1)
+  where
+    kept : old.bodies ≡ [] → kind_may_change_page kind ≡ false → does.from.state.page ≡ item.machine.state.page
+    kept idle keeps =
+        outer_step (does.from.state.page ≡ item.machine.state.page) old new item kind does idle
+        (λ command is. sym (command_keeps law old new item kind does command is idle keeps))
+
+    lines : old.bodies ≡ [] → kind_transfers_rows kind ≡ true → KeepsRest (lines_between before behind) does.from.state.page item.machine.state.page
+    lines idle transfers =
+        lines_kept before behind does.from.state item.machine.state one other
+        (outer_step (KeepsOtherLines does.from.state item.machine.state) old new item kind does idle
+        (λ command is. command_keeps_lines law rows old new item kind does command is idle transfers))
+
+    either : (nothing rows : Bool) → (nothing ≡ true → does.from.state.page ≡ item.machine.state.page)
+        → (rows ≡ true → KeepsRest (lines_between before behind) does.from.state.page item.machine.state.page)
+        → KeepsRest (if nothing then Nothing else if rows then lines_between before behind else Whole) does.from.state.page item.machine.state.page
+    either true rows first second = first refl
+    either false true first second = second refl
+    either false false first second = tt

@@ -1,5 +1,5 @@
 -- A stream that is told step by step.
-use Rattle.std.specs.Prelude.{◌≡◌, ◌-◌, ◌≤◌, ◌+◌, ℕ, List, [], ◌∷◌, length, Option, None, Some, IsSome, Bool, false, is_some, if◌then◌else◌}
+use Rattle.std.specs.Prelude.{◌≡◌, ◌-◌, ◌≤◌, ◌+◌, ℕ, List, [], ◌∷◌, length, Option, None, Some, IsSome, Bool, ◌&&◌, not, is_some, if◌then◌else◌}
 use Rattle.press_cmd.specs.Token.{Token}
 use Rattle.press_cmd.specs.declared.variant.Kind.{Kind}
 use Rattle.press_scan.specs.ScannerState.{ScannerState}
@@ -9,6 +9,7 @@ use Rattle.press_engine.specs.declared.machine.Machine.{Machine}
 use Rattle.press_engine.specs.Machine.{StepResult}
 use Rattle.press_engine.specs.Engine.{view_of}
 use Rattle.press_table.specs.Outputs.{all_outputs}
+use Rattle.press_table.specs.PageKept.{kind_may_change_page, kind_transfers_rows, most_dot_lines}
 use Rattle.press_stream.specs.State.{opened, with_piece}
 use Rattle.press_stream.specs.Answers.{IsIdle}
 use Rattle.press_stream.specs.Steps.{Does}
@@ -16,7 +17,10 @@ use Rattle.press_trace.specs.declared.place.Place.{Place}
 use Rattle.press_trace.specs.declared.seen.Seen.{Seen}
 use Rattle.press_trace.specs.declared.tracer.Tracer.{Tracer}
 use Rattle.press_trace.specs.Lines.{IsLine}
+use Rattle.press_trace.specs.Pages.{KeepsRest}
 use Rattle.press_trace.specs.Places.{Placed, from_on}
+use Rattle.press_trace.specs.declared.touched.Touched.{Touched}
+use Rattle.press_trace.specs.declared.touched.Touched.TheVariants.{Nothing, Lines, Whole}
 
 -- No byte of the stream came.
 pub record IsAtStart (tracer : Tracer) : Type 0 where
@@ -54,10 +58,25 @@ pub record IsSound (tracer : Tracer) : Type 0 where
   pub shown : (machine : Machine) → tracer.job.machine ≡ Some machine → tracer.page ≡ machine.state.page
   pub kept : IsKept (told_before tracer) tracer.before tracer.page
 
--- This is the machine behind a step, and the page is as it was where the step may not change it.
-pub record Shows (tracer : Tracer) (may_change : Bool) (machine : Machine) : Type 0 where
+-- What a step may have touched: nothing, outside of bodies, by a kind that changes no page; lines, by rows that are transferred where the
+-- page stands upright; else all.
+abbrev pub lines_between : (before behind : Option ℕ) → Touched
+lines_between (Some first) (Some last) = Lines first (last + most_dot_lines)
+lines_between before behind = Whole
+
+abbrev pub touched_by : (outside : Bool) → Kind → (before behind : Option ℕ) → Touched
+touched_by outside kind before behind =
+    if outside && not (kind_may_change_page kind) then Nothing
+    else if outside && kind_transfers_rows kind then lines_between before behind else Whole
+
+-- This is the machine behind a step, which may have touched this of the page.
+pub record Shows (tracer : Tracer) (touched : Touched) (machine : Machine) : Type 0 where
   pub running : tracer.job.machine ≡ Some machine
-  pub stays : may_change ≡ false → tracer.page ≡ machine.state.page
+  pub keeps : KeepsRest touched tracer.page machine.state.page
+
+-- there is such a machine
+abbrev pub ShowsSome : Tracer → Touched → Type 0
+ShowsSome tracer touched = (machine : Machine) × Shows tracer touched machine
 
 -- the item of a step, in its place
 abbrev pub placed_run : Place → Machine → StepOutput → Placed

@@ -13,6 +13,7 @@ mod sent;
 mod spelled;
 mod text;
 mod told;
+mod touched;
 mod tracer;
 mod tracing;
 

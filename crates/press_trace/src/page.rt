@@ -1,14 +1,15 @@
 //! What changed of the open page.
 
-ghost use Rattle.std.specs.Prelude.{◌≡◌, ◌<◌, ◌≤◌, ℕ, length, slice_index, IfOk, None, Some, option_map, map};
+ghost use Rattle.std.specs.Prelude.{◌≡◌, ◌<◌, ◌≤◌, ℕ, length, slice_index, IfOk, None, Some, option_map, map, MatchOption};
 ghost use Rattle.hex.specs.Hex.{encode_upper};
 ghost use Rattle.serde_json.specs.Data.{null, string};
 ghost use Rattle.serde_json.specs.View.{view, items_view, items_of};
 ghost use Rattle.press_bits.specs.Page.{HasNoDotOutside};
-ghost use Rattle.press_bits.specs.Patches.{LiesOn};
+ghost use Rattle.press_bits.specs.Patches.{ChangedIn, LiesOn};
 ghost use Rattle.press_trace.specs.Plain.{HasNoFloat, IsPlain};
-ghost use Rattle.press_trace.specs.Pages.{rows_of, row_in, patch_data, size_data, Follows, StartsFrom, IsPageTold};
+ghost use Rattle.press_trace.specs.Pages.{rows_of, row_in, patch_data, size_data, Follows, KeepsRest, StartsFrom, IsPageTold};
 
+use crate::touched::Touched;
 use press_bits::{Bitmap, Region};
 use press_canvas::Canvas;
 use serde_json::{Map, Value, put};
@@ -126,16 +127,38 @@ fn start(
     }
 }
 
-/// Follows a page to a later one of its size. The answer is the region that changed with its rows, if anything did.
+/// The region in which a page differs from an earlier one of its size, of which a step touched this.
+fn changed(before: &Bitmap, after: &Bitmap, touched: Touched) -> Option<Region>
+    requires width { after.now.width ≡ before.now.width }
+    requires height { after.now.height ≡ before.now.height }
+    requires keeps { KeepsRest touched (Some before.now) (Some after.now) }
+    ensures { MatchOption result (before.now ≡ after.now)
+        (λ region. ChangedIn before.now after.now region) }
+{
+    match touched {
+        Touched::Nothing => None,
+        Touched::Lines { first, end } => before.changed_between(after, first, end),
+        Touched::Whole => before.changed(after),
+    }
+}
+
+/// Follows a page to a later one of its size, of which a step touched this. The answer is the region that changed with its rows, if
+/// anything did.
 #[tactic(auto, using(crate::proofs::FloatLemmas::plain_patch))]
-fn follow(alloc: Global, page: &mut Bitmap, after: &Bitmap) -> Result<Option<Value>, AllocError>
+fn follow(
+    alloc: Global,
+    page: &mut Bitmap,
+    after: &Bitmap,
+    touched: Touched,
+) -> Result<Option<Value>, AllocError>
     requires width { after.now.width ≡ page.old.width }
     requires height { after.now.height ≡ page.old.height }
+    requires keeps { KeepsRest touched (Some page.old) (Some after.now) }
     ensures told { IfOk result (λ patch. Follows page.old after.now (option_map view patch)) }
     ensures page { IfOk result (λ _. page.new ≡ after.now) }
     ensures plain { IfOk result (λ patch. HasNoFloat (option_map view patch)) }
 {
-    match page.changed(after) {
+    match changed(page, after, touched) {
         Some(region) => {
             let patch = patch_value(alloc, after, region)?;
             page.take_lines(after, region)?;
@@ -165,14 +188,21 @@ fn told_open(
     alloc: Global,
     before: Option<Bitmap>,
     after: &Bitmap,
+    touched: Touched,
 ) -> Result<(Option<Bitmap>, PageTold), AllocError>
+    requires { KeepsRest touched before (Some after.now) }
     ensures told { IfOk result (λ answer. IsPageTold before (Some after.now)
         (option_map view answer.1.opened) (option_map view answer.1.page)) }
     ensures page { IfOk result (λ answer. answer.0 ≡ Some after.now) }
     ensures plain { IfOk result (λ answer. IsPlain answer.1) }
 {
     let (mut page, opened) = start(alloc, before, after)?;
-    let patch = follow(alloc, &mut page, after)?;
+    let touched = if opened.is_some() {
+        Touched::Whole
+    } else {
+        touched
+    };
+    let patch = follow(alloc, &mut page, after, touched)?;
     Ok((
         Some(page),
         PageTold {
@@ -187,27 +217,31 @@ fn told_canvas(
     alloc: Global,
     before: Option<Bitmap>,
     after: &Canvas,
+    touched: Touched,
 ) -> Result<(Option<Bitmap>, PageTold), AllocError>
+    requires { KeepsRest touched before (Some after.now) }
     ensures told { IfOk result (λ answer. IsPageTold before (Some after.now)
         (option_map view answer.1.opened) (option_map view answer.1.page)) }
     ensures page { IfOk result (λ answer. answer.0 ≡ Some after.now) }
     ensures plain { IfOk result (λ answer. IsPlain answer.1) }
 {
     match after.upright() {
-        Some(page) => told_open(alloc, before, page),
+        Some(page) => told_open(alloc, before, page, touched),
         None => {
             let page = after.page(alloc)?;
-            told_open(alloc, before, &page)
+            told_open(alloc, before, &page, touched)
         }
     }
 }
 
-/// What is told of the open page now, where it was so before. The answer has the page of now, too.
+/// What is told of the open page now, where it was so before, and a step touched this of it. The answer has the page of now, too.
 pub(crate) fn told_page(
     alloc: Global,
     before: Option<Bitmap>,
     now: Option<&Canvas>,
+    touched: Touched,
 ) -> Result<(Option<Bitmap>, PageTold), AllocError>
+    requires { KeepsRest touched before (option_map (λ page. page.now) now) }
     ensures told { IfOk result (λ answer. IsPageTold before
         (option_map (λ page. page.now) now.entry)
         (option_map view answer.1.opened) (option_map view answer.1.page)) }
@@ -215,7 +249,7 @@ pub(crate) fn told_page(
     ensures plain { IfOk result (λ answer. IsPlain answer.1) }
 {
     match now {
-        Some(after) => told_canvas(alloc, before, after),
+        Some(after) => told_canvas(alloc, before, after, touched),
         None => Ok((None, closed(before))),
     }
 }

@@ -1,16 +1,15 @@
 //! A stream that is carried out step by step, and told line by line.
 
-ghost use Rattle.std.specs.Prelude.{◌≡◌, ◌≤◌, ◌+◌, ◌||◌, false, not, length, IfOk, OnOk};
-ghost use Rattle.press_table.specs.PageKept.{kind_may_change_page};
+ghost use Rattle.std.specs.Prelude.{◌≡◌, ◌≤◌, ◌+◌, false, length, IfOk, OnOk};
 
 use crate::line::seen_line;
 use crate::page::{PageTold, told_page};
 use crate::place::Place;
 use crate::seen::Seen;
 use crate::sent::WentOut;
+use crate::touched::{Touched, row_line, touched_by};
 use press_bits::Bitmap;
-use press_cmd::Kind;
-use press_engine::{StepOutput, may_change_page};
+use press_engine::StepOutput;
 use press_stream::{Job, JobStep};
 use std::alloc::{AllocError, Global};
 
@@ -29,13 +28,6 @@ pub(crate) struct Tracer {
     page: Option<Bitmap>,
 }
 
-/// Whether a step may change the open page, that took a command of this kind outside of bodies or in one.
-fn may_change(outside: bool, kind: Kind) -> bool
-    ensures { result ≡ not outside || kind_may_change_page kind }
-{
-    !outside || may_change_page(kind)
-}
-
 impl Tracer {
     ghost use Rattle.std.specs.Prelude.{Some, Option, option_map};
     ghost use Rattle.serde_json.specs.View.{view};
@@ -44,7 +36,7 @@ impl Tracer {
     ghost use Rattle.press_trace.specs.Pages.{IsPageTold};
     ghost use Rattle.press_trace.specs.Plain.{IsPlain};
     ghost use Rattle.press_stream.specs.State.{input_ended};
-    ghost use Rattle.press_trace.specs.Tracing.{IsAtStart, IsSound, IsKept, Tells, Shows, most_bytes, placed_run, place_if, with_more};
+    ghost use Rattle.press_trace.specs.Tracing.{IsAtStart, IsSound, IsKept, Tells, Shows, ShowsSome, most_bytes, placed_run, place_if, with_more};
 
     /// A stream of which no byte came.
     pub(crate) fn open(alloc: Global) -> Result<Self, AllocError>
@@ -91,10 +83,12 @@ impl Tracer {
     {
         let outside = self.job.is_idle();
         let held = self.job.held();
+        let before = row_line(&self.job.view());
         match self.job.take_step() {
             Ok(JobStep::Ran(step)) => {
                 self.place = self.place_behind(outside, held);
-                let line = self.tell(&step, may_change(outside, step.kind))?;
+                let behind = row_line(&self.job.view());
+                let line = self.tell(&step, touched_by(outside, step.kind, before, behind))?;
                 Ok(Some(line))
             }
             Ok(_) => Ok(None),
@@ -118,35 +112,38 @@ impl Tracer {
         }
     }
 
-    /// What is told of the open page, which may have changed in the step that was taken last.
-    fn page_told(&mut self, may_change: bool) -> Result<PageTold, AllocError>
-        ensures told { IfOk result (λ told. (machine : Machine) → Shows self.old may_change machine
+    /// What is told of the open page, of which the step that was taken last may have touched this.
+    fn page_told(&mut self, touched: Touched) -> Result<PageTold, AllocError>
+        requires { ShowsSome self.old touched }
+        ensures told { IfOk result (λ told. (machine : Machine) → Shows self.old touched machine
             → IsPageTold self.old.page machine.state.page
             (option_map view told.opened) (option_map view told.page)) }
-        ensures page { OnOk result ((machine : Machine) → Shows self.old may_change machine
+        ensures page { OnOk result ((machine : Machine) → Shows self.old touched machine
             → self.new.page ≡ machine.state.page) }
         ensures plain { IfOk result IsPlain }
         ensures others { OnOk result (self.new ≡ record self.old { page = self.new.page }) }
     {
-        if !may_change {
+        if let Touched::Nothing = touched {
             return Ok(PageTold::nothing());
         }
-        let (page, told) = told_page(self.alloc, self.page.take(), self.job.page())?;
+        let before = self.page.take();
+        let (page, told) = told_page(self.alloc, before, self.job.page(), touched)?;
         self.page = page;
         Ok(told)
     }
 
     /// The line of the step that was taken last.
-    fn tell(&mut self, step: &StepOutput, may_change: bool) -> Result<Vec<u8>, AllocError>
-        ensures line { IfOk result (λ line. (machine : Machine) → Shows self.old may_change machine
+    fn tell(&mut self, step: &StepOutput, touched: Touched) -> Result<Vec<u8>, AllocError>
+        requires { ShowsSome self.old touched }
+        ensures line { IfOk result (λ line. (machine : Machine) → Shows self.old touched machine
             → (before : Option Machine) → IsKept before self.old.before self.old.page
             → IsLine before (placed_run self.old.place machine step.now) line.items) }
-        ensures kept { OnOk result ((machine : Machine) → Shows self.old may_change machine
+        ensures kept { OnOk result ((machine : Machine) → Shows self.old touched machine
             → IsKept (Some machine) self.new.before self.new.page) }
         ensures others { OnOk result (self.new
             ≡ record self.old { before = self.new.before; page = self.new.page }) }
     {
-        let page = self.page_told(may_change)?;
+        let page = self.page_told(touched)?;
         let went = WentOut::of(&mut self.job, self.alloc, &step.sent)?;
         let view = self.job.view();
         let line = seen_line(self.alloc, self.place, &went, &self.before, &view, page)?;
