@@ -51,6 +51,10 @@ RombixelaAnswer rombixela_print(const uint8_t *settings, size_t settings_length,
 RombixelaAnswer rombixela_list(const uint8_t *settings, size_t settings_length, const uint8_t *stream, size_t stream_length,
                                uint8_t *room, size_t room_length);
 
+/* The same with the SHA-256 of each side behind its line: `press print --list --sums`. */
+RombixelaAnswer rombixela_sums(const uint8_t *settings, size_t settings_length, const uint8_t *stream, size_t stream_length,
+                               uint8_t *room, size_t room_length);
+
 /* A line of JSON for each step of a stream (docs/TRACE.md): `press trace`. */
 RombixelaAnswer rombixela_trace(const uint8_t *settings, size_t settings_length, const uint8_t *stream, size_t stream_length,
                                 uint8_t *room, size_t room_length);

@@ -179,6 +179,7 @@ static RombixelaAnswer call(unsigned which, const uint8_t *first, size_t first_l
     case 4: return rombixela_asm(second, second_length, room, room_length);
     case 5: return rombixela_write(first, first_length, second, second_length, room, room_length);
     case 6: return rombixela_session(first_length % 6, first, first_length, second, second_length, room, room_length);
+    case 7: return rombixela_sums(first, first_length, second, second_length, room, room_length);
     default: return rombixela_version(room, room_length);
     }
 }
@@ -191,7 +192,7 @@ static int complain(uint64_t number, unsigned which, const char *what)
 
 static int one_call(uint64_t number, const Walled *memories, uint64_t *counts)
 {
-    unsigned which = (unsigned)below(64) == 0 ? 7 : (unsigned)below(7);
+    unsigned which = (unsigned)below(64) == 0 ? 8 : (unsigned)below(8);
     uint8_t *first, *second, *room;
     size_t first_length = which == 5 || which == 6 ? fill(&memories[0], &first) : fill_settings(&memories[0], &first);
     size_t second_length = fill(&memories[1], &second), length, at;

@@ -172,9 +172,9 @@ def print_stream(data: Bytes, defaults: Mapping[str, object] = {}) -> List[Page]
     return list(_pages(_written("print", room, settings, data)))
 
 
-def listing(data: Bytes, defaults: Mapping[str, object] = {}) -> str:
-    """A line for each side that a stream prints, and its replies behind them."""
-    return bytes(_written("list", LINES, _settings(defaults), data)).decode("latin-1")
+def listing(data: Bytes, defaults: Mapping[str, object] = {}, sums: bool = False) -> str:
+    """A line for each side that a stream prints, and its replies behind them. With `sums` the SHA-256 of its P4 file stands in the line of a side."""
+    return bytes(_written("sums" if sums else "list", LINES, _settings(defaults), data)).decode("latin-1")
 
 
 def trace(data: Bytes, defaults: Mapping[str, object] = {}) -> Iterator[Dict[str, Any]]:

@@ -4,7 +4,7 @@
 ghost use Rattle.press_memory.specs.Answers.{Answers};
 ghost use Rattle.press_memory.specs.Session.{SessionOf};
 ghost use Rattle.press_memory.specs.Settings.{BySettings};
-ghost use Rattle.press_memory.specs.Written.{JobOf, ListingOf, SidesOf, StreamOf, TextOf, TraceOf, VersionOf};
+ghost use Rattle.press_memory.specs.Written.{JobOf, ListingOf, SidesOf, StreamOf, SumsOf, TextOf, TraceOf, VersionOf};
 
 use press_memory::RombixelaAnswer;
 use std::alloc::Global;
@@ -35,6 +35,20 @@ pub extern "C" fn rombixela_list(
         result room.old room.new }
 {
     press_memory::list(alloc, settings, stream, room)
+}
+
+/// The same with the SHA-256 of each side behind its line, as `print --list --sums` writes it.
+#[unsafe(no_mangle)]
+pub extern "C" fn rombixela_sums(
+    alloc: Global,
+    settings: &[u8],
+    stream: &[u8],
+    room: &mut [u8],
+) -> RombixelaAnswer
+    ensures { Answers (BySettings settings.now (λ prefix. SumsOf prefix stream.now))
+        result room.old room.new }
+{
+    press_memory::sums(alloc, settings, stream, room)
 }
 
 /// The trace of a stream, as `trace` writes it, with the printer's own settings.

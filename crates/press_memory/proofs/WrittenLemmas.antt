@@ -6,7 +6,7 @@ use Rattle.press_telling.specs.Telling.{Ended}
 use Rattle.press_files.specs.Causes.{failures}
 use Rattle.press_files.specs.Change.{around, change}
 use Rattle.press_files.specs.Files.{PrintsFiles, PrintsNoFiles}
-use Rattle.press_files.specs.Listing.{PrintsListing}
+use Rattle.press_files.specs.Listing.{PrintsListingBy}
 use Rattle.press_forms.specs.Assembly.{DisassembledTo, StopsDisassembling, TextRefused}
 use Rattle.press_forms.specs.Causes.{TextCause}
 use Rattle.press_forms.specs.Faults.{told_of_text}
@@ -18,7 +18,7 @@ use Rattle.press_jobs.specs.declared.jobs.JobFileError.{JobFileError}
 use Rattle.press_forms.specs.declared.assembly.TextError.{TextError}
 use Rattle.press_memory.specs.Faults.{EndsBy, Tells, fault_of, job_number, text_number}
 use Rattle.press_memory.specs.Session.{PlayedSession, unknown_files}
-use Rattle.press_memory.specs.Written.{JobOf, Left, ListingOf, MayFail, SidesOf, StreamOf, TextOf, TraceOf, held_by_all, number_alone}
+use Rattle.press_memory.specs.Written.{JobOf, Left, ListedBy, MayFail, SidesOf, StreamOf, TextOf, TraceOf, held_by_all, number_alone}
 
 -- what a reader and a writer are behind a call
 abbrev left_of : (unread : Option (List ℕ)) (failed : Bool) (reads : ℕ) (cut : Bool) → Left
@@ -31,16 +31,16 @@ renamed P had now old empty new written same none all holds =
     subst (λ (a : Option (List ℕ)). P a empty written) same
     (subst (λ (b : Option (List ℕ)). P had b written) none (subst (λ (c : Option (List ℕ)). P had old c) all holds))
 
-pub listing-of : (prefix stream written : List ℕ) (had unread old new : Option (List ℕ)) (failed : Bool) (reads : ℕ) (cut : Bool) (status fault : ℕ)
+pub listed-by : (sums : Bool) (prefix stream written : List ℕ) (had unread old new : Option (List ℕ)) (failed : Bool) (reads : ℕ) (cut : Bool) (status fault : ℕ)
     → had ≡ Some stream → old ≡ Some [] → new ≡ Some written → EndsBy status (ReadFails failed reads) fault
-    → PrintsListing (failures (ReadFails failed reads) ⊥ (cut ≡ true) ⊥) status prefix (change None None) (change had unread) (change old new)
-    → ListingOf prefix stream fault written
-listing-of prefix stream written had unread old new failed reads cut status fault same none all ends lists = record {
+    → PrintsListingBy sums (failures (ReadFails failed reads) ⊥ (cut ≡ true) ⊥) status prefix (change None None) (change had unread) (change old new)
+    → ListedBy sums prefix stream fault written
+listed-by sums prefix stream written had unread old new failed reads cut status fault same none all ends lists = record {
   left = left_of unread failed reads cut;
   status = status;
   ends = ends;
   lists = renamed (λ had old new.
-      PrintsListing (failures (ReadFails failed reads) ⊥ (cut ≡ true) ⊥) status prefix (change None None) (change had unread) (change old new))
+      PrintsListingBy sums (failures (ReadFails failed reads) ⊥ (cut ≡ true) ⊥) status prefix (change None None) (change had unread) (change old new))
       had (Some stream) old (Some []) new (Some written) same none all lists;
 }
 

@@ -1,5 +1,5 @@
 -- What the program writes of bytes in memory, call by call: each as the clause of the call that the program makes says it.
-use Rattle.std.specs.Prelude.{◌≡◌, ◌⊎◌, ℕ, Bool, true, List, [], ◌∷◌, ◌++◌, Option, Some, None, codes, ⊤}
+use Rattle.std.specs.Prelude.{◌≡◌, ◌⊎◌, ℕ, Bool, true, false, List, [], ◌∷◌, ◌++◌, Option, Some, None, codes, ⊤}
 use Rattle.std.specs.List.{flat_map}
 use Rattle.press_devices.specs.Reading.{ReadFails}
 use Rattle.press_sink.specs.Outputs.{MadeOutput}
@@ -7,7 +7,7 @@ use Rattle.press_telling.specs.Telling.{Ended}
 use Rattle.press_files.specs.Causes.{failures}
 use Rattle.press_files.specs.Change.{around, change, Edge}
 use Rattle.press_files.specs.Files.{PrintsFiles, PrintsNoFiles}
-use Rattle.press_files.specs.Listing.{PrintsListing}
+use Rattle.press_files.specs.Listing.{PrintsListingBy}
 use Rattle.press_forms.specs.Assembly.{Assembled, TextRefused, DisassembledTo, StopsDisassembling}
 use Rattle.press_forms.specs.Causes.{TextCause}
 use Rattle.press_forms.specs.Faults.{told_of_text}
@@ -34,13 +34,20 @@ pub record Left : Type 0 where
 abbrev pub IsGivenUp : Left → Type 0
 IsGivenUp left = ReadFails left.failed left.reads
 
--- The listing of a stream behind these bytes is written (`print_list`).
-pub record ListingOf (prefix stream : List ℕ) (fault : ℕ) (written : List ℕ) : Type 0 where
+-- The listing of a stream behind these bytes is written, with sums or without.
+pub record ListedBy (sums : Bool) (prefix stream : List ℕ) (fault : ℕ) (written : List ℕ) : Type 0 where
   pub left : Left
   pub status : ℕ
   pub ends : EndsBy status (IsGivenUp left) fault
-  pub lists : PrintsListing (failures (IsGivenUp left) ⊥ (left.cut ≡ true) ⊥) status prefix
+  pub lists : PrintsListingBy sums (failures (IsGivenUp left) ⊥ (left.cut ≡ true) ⊥) status prefix
       (change None None) (change (Some stream) left.unread) (change (Some []) (Some written))
+
+-- It is written without (`print_list`), or with the SHA-256 of each side (`print_sums`).
+abbrev pub ListingOf : (prefix stream : List ℕ) (fault : ℕ) (written : List ℕ) → Type 0
+ListingOf = ListedBy false
+
+abbrev pub SumsOf : (prefix stream : List ℕ) (fault : ℕ) (written : List ℕ) → Type 0
+SumsOf = ListedBy true
 
 -- what an output holds; one that was not closed holds nothing
 abbrev pub held_bytes : Option (List ℕ) → List ℕ

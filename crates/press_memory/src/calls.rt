@@ -2,7 +2,7 @@
 ghost use Rattle.press_memory.specs.Answers.{Answers};
 ghost use Rattle.press_memory.specs.Session.{SessionOf};
 ghost use Rattle.press_memory.specs.Settings.{BySettings};
-ghost use Rattle.press_memory.specs.Written.{JobOf, ListingOf, SidesOf, StreamOf, TextOf, TraceOf, VersionOf};
+ghost use Rattle.press_memory.specs.Written.{JobOf, ListingOf, SidesOf, StreamOf, SumsOf, TextOf, TraceOf, VersionOf};
 
 use crate::answer::{NO_FAULT, RombixelaAnswer, hand_over};
 use crate::{job, playing, sides, streams, texts};
@@ -26,6 +26,15 @@ pub fn list(alloc: Global, settings: &[u8], stream: &[u8], room: &mut [u8]) -> R
         result room.old room.new }
 {
     let written = streams::listing(alloc, settings, stream);
+    hand_over(written.fault, &written.bytes, room)
+}
+
+/// The same with the SHA-256 of each side behind its line, as `print --list --sums` writes it.
+pub fn sums(alloc: Global, settings: &[u8], stream: &[u8], room: &mut [u8]) -> RombixelaAnswer
+    ensures { Answers (BySettings settings.now (λ prefix. SumsOf prefix stream.now))
+        result room.old room.new }
+{
+    let written = streams::sums(alloc, settings, stream);
     hand_over(written.fault, &written.bytes, room)
 }
 

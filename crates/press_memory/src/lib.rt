@@ -14,4 +14,4 @@ mod texts;
 mod told;
 
 pub use answer::RombixelaAnswer;
-pub use calls::{asm, disasm, list, print, session, trace, version, write};
+pub use calls::{asm, disasm, list, print, session, sums, trace, version, write};

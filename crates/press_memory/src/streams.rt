@@ -1,12 +1,12 @@
 //! What is written of a stream in memory: its listing, the P4 files of its sides, its trace and its text.
 ghost use Rattle.press_memory.specs.Settings.{BySettings};
-ghost use Rattle.press_memory.specs.Written.{ListingOf, TextOf, TraceOf};
+ghost use Rattle.press_memory.specs.Written.{ListingOf, SumsOf, TextOf, TraceOf};
 
 use crate::answer::Written;
 use crate::ending::fault_after;
 use crate::settings::prefix_in;
 use press_devices::Watched;
-use press_files::print_list;
+use press_files::{print_list, print_sums};
 use press_forms::{disasm_bytes, tell_trace};
 use std::alloc::Global;
 use std::io::{self, Read};
@@ -29,6 +29,30 @@ fn listing_behind(alloc: Global, prefix: &[u8], stream: &[u8]) -> Written
     let mut reader = Watched::new(stream);
     let out = Watched::new(Vec::new(alloc));
     let listed = print_list(alloc, prefix, &mut reader, out, &mut io::sink());
+    Written {
+        fault: fault_after(listed.status, &reader),
+        bytes: listed.out.into_inner(),
+    }
+}
+
+/// The listing of a stream with the SHA-256 of each side, by settings.
+pub(crate) fn sums(alloc: Global, settings: &[u8], stream: &[u8]) -> Written
+    ensures { BySettings settings.now (λ prefix. SumsOf prefix stream.now)
+        result.fault result.bytes.items }
+{
+    match prefix_in(alloc, settings) {
+        Ok(prefix) => sums_behind(alloc, &prefix, stream),
+        Err(error) => Written::nothing(alloc, error.number()),
+    }
+}
+
+/// The listing of a stream behind these bytes, with the SHA-256 of each side.
+fn sums_behind(alloc: Global, prefix: &[u8], stream: &[u8]) -> Written
+    ensures { SumsOf prefix.now stream.now result.fault result.bytes.items }
+{
+    let mut reader = Watched::new(stream);
+    let out = Watched::new(Vec::new(alloc));
+    let listed = print_sums(alloc, prefix, &mut reader, out, &mut io::sink());
     Written {
         fault: fault_after(listed.status, &reader),
         bytes: listed.out.into_inner(),

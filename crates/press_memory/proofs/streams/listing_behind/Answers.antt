@@ -1,10 +1,10 @@
-use Rattle.std.proofs.Common.{◌∙◌, Some, ap, sym}
-use Rattle.press_memory.proofs.WrittenLemmas.{listing-of}
+use Rattle.std.proofs.Common.{◌∙◌, Some, false, ap, sym}
+use Rattle.press_memory.proofs.WrittenLemmas.{listed-by}
 use Rattle.press_memory.proofs.streams.listing_behind.Goals as goal
 
 pub returns : goal.returns
 returns c =
-    listing-of c.args.prefix.now c.args.stream.now c.into_inner.result.items _ _ _ _ _ _ _ _ c.fault_after.result
+    listed-by false c.args.prefix.now c.args.stream.now c.into_inner.result.items _ _ _ _ _ _ _ _ c.fault_after.result
     (ap (λ device. Some device.now) c.new-reader.ensures.device)
     (ap (λ device. Some device.items) c.new-out.ensures.device ∙ ap Some c.new.ensures.items)
     (ap (λ device. Some device.items) (sym c.into_inner.ensures))
