@@ -203,8 +203,9 @@ def best_of(code):
 
 
 def note(made, since, said):
-    """Notes which program answers, and what is said of it."""
-    standing.write(RECORD, (made.relative_to(RECORD.parent), said), since)
+    """Notes which program answers, and what is said of it. Who may not write the folder, as CUPS' own user, looks again at each call."""
+    with contextlib.suppress(OSError):
+        standing.write(RECORD, (made.relative_to(RECORD.parent), said), since)
 
 
 def line():
