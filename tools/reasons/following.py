@@ -1,5 +1,5 @@
 """What is said of a command by what follows it in the stream: a macro that is not ended, an overlay that runs nothing, a margin that is put back,
-rows of nothing that repeat the row above, and pages that move from one to the next."""
+rows of nothing that repeat the row above, pages that move from one to the next, and rows behind a form feed that nothing places."""
 
 from typing import NamedTuple
 
@@ -16,6 +16,7 @@ WHITE = 1                    # of a fill
 REPEATED_INCHES = 0.1        # so far down a row is repeated until raster graphics ends, where white rows were meant
 LEAST_MOVED = 3              # pages, each as far from the one before
 SETTLED = "top_margin"
+PUTTING_BACK = ("&lO", "&lA", "&lL")   # what puts the top margin back to half an inch
 
 
 def with_value(happening, key, *values):
@@ -29,7 +30,7 @@ class Unended(NamedTuple):
 
 
 # The reasons that what follows decides, in the order of the table.
-LATE = ("a macro that is not ended", "an overlay of nothing", "a row that repeats", "a front without its back", "margin that is put back")
+LATE = ("a macro that is not ended", "an overlay of nothing", "a row that repeats", "a front without its back", "top margin", "margin that is put back")
 
 
 class Following:
@@ -44,8 +45,9 @@ class Following:
         self.put_on, self.closed = None, False          # an overlay, and whether a page closed under it
         self.sought = None                              # what puts a margin back, until something is sent
         self.white, self.rows, self.last, self.scale = None, {}, 0, 0   # of a raster: whether it begins with white rows, its rows that repeat
+        self.together = {}                              # those of them that stand together, the last
         self.asking = []                                # fronts that went out alone, until another sheet goes out
-        self.moving = Moving()
+        self.moving, self.unplaced = Moving(), Unplaced()
 
     def hold(self, happening):
         self.held.add(happening.placed.offset)
@@ -74,6 +76,7 @@ class Following:
         self.follow_overlay(each, key)
         self.follow_margin(each, key)
         self.follow_rows(each)
+        self.unplaced.go_on(each, key in SENDING and not each.bodies)
         if key in SENDING and not each.bodies:
             self.moving.go_on(each)
 
@@ -129,38 +132,48 @@ class Following:
         self.put_on = None
 
     def follow_margin(self, each, key):
-        """Commands of page size and orientation that change the top margin, which nothing sets again before something is sent."""
-        if self.sought is not None and key in SENDING:
+        """Commands of page size, orientation and perforation skip that change the top margin, which nothing sets again before something is sent."""
+        if self.sought is not None and (key in SENDING or each.bodies):
             self.release(self.sought, self.put_back)
             self.sought = None
         if any(name == SETTLED for name, _, _ in each.changes):
             self.release(self.sought)
-            self.sought = each if key in ("&lO", "&lA") else None
+            self.sought = each if key in PUTTING_BACK else None
             if self.sought:
                 self.hold(each)
 
     def follow_rows(self, each):
-        """The rows of nothing that repeat, of each raster that ends with many of them. A driver that means them skips white rows: where the first row
-        of the raster is one of nothing, onto white, it sends white rows so."""
+        """The rows of nothing that repeat, of each raster that ends with many of them, as many of these as stand together. A driver that means them skips
+        white rows: where the first row of the raster is one of nothing, onto white, it sends white rows so."""
         if letters(each.placed.command) == "*bW":
             if self.white is None and each.how == "row":
                 self.white = not each.placed.command.data and not each.sent.again
             if not is_repeat(each):
-                self.last = 0
+                self.end_together()
             else:
                 self.last, self.scale = self.last + 1, each.before["raster_resolution"]
                 if self.white:
-                    self.rows[each.placed.offset] = each.sent.again
+                    self.together[each.placed.offset] = each.sent.again
                     self.hold(each)
         if any(name == "raster_on" and before for name, before, _ in each.changes):
             self.end_rows()
 
+    def end_together(self):
+        """Whether many stand together here; a few are meant."""
+        many = self.last >= REPEATED_INCHES * self.scale > 0
+        if many:
+            self.rows.update(self.together)
+        else:
+            self.held.difference_update(self.together)
+        self.together, self.last = {}, 0
+        return many
+
     def end_rows(self):
-        if self.rows and self.last >= REPEATED_INCHES * self.scale:
+        if self.end_together():
             self.repeated.update(self.rows)
             self.late.update(self.rows)
         self.held.difference_update(self.rows)
-        self.white, self.rows, self.last = None, {}, 0
+        self.white, self.rows = None, {}
 
 
 def is_taken_off(happening):
@@ -200,6 +213,38 @@ class Moving:
                       f"{'below' if dots > 0 else 'above'} that of the page before, on side {side_of(second)} by {command} "
                       f"{groups.place_of(second)}", "Look at what its driver places each page by: ESC*p#Y, ESC&a#V, or nothing behind a form feed",
                       remark=True, page=side_of(second), place=second.placed.offset, command=command)
+
+
+class Unplaced:
+    """Rows behind a form feed that ends raster graphics, which nothing begins or places: they begin where it leaves the cursor, and not where those of the
+    page before began."""
+
+    def __init__(self):
+        self.place = self.before = None      # where what is sent first to this page stands below its top, and to the one before
+        self.feed = self.found = None
+
+    def go_on(self, each, sends):
+        if each.closes:
+            self.before, self.place = self.place, None
+            self.feed = each if each.before["raster_on"] and each.how == "row" else None
+        elif sends:
+            if self.place is None:
+                self.place = each.before["y"] + each.before[SETTLED]
+                if self.feed is not None and self.found is None and self.before not in (None, self.place):
+                    self.found = self.feed, each, self.place - self.before
+            self.feed = None
+        elif any(name in ("y", "raster_on") for name, _, _ in each.changes):
+            self.feed = None
+
+    def finding(self, shown, side_of):
+        if self.found is None:
+            return
+        feed, first, step = self.found
+        dots, name, side = step * first.resolution / POSITIONS_PER_INCH, groups.named(feed), side_of(first)
+        yield Finding(None, f"{shown} moves from page to page: {name} {groups.place_of(feed)} ends raster graphics, and nothing places the rows behind it, so on side "
+                      f"{side} they begin {abs(dots):g} dots {'below' if dots > 0 else 'above'} where those of the page before began",
+                      "Have the driver begin raster graphics on each page (ESC*rA), and place it: ESC*p#Y", remark=True, page=side, place=feed.placed.offset,
+                      command=name)
 
 
 # What the reasons say

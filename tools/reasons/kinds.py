@@ -17,12 +17,15 @@ STARTS = [
     (b"\x1b@", "an ESC/P stream, as for Epson's printers"), (b"\0\0\0\x1b\x01@EJL", "an ESC/P stream, as for Epson's printers"),
     (b"\x1b", "a print stream"),
 ]
+PLOT = re.compile(rb"(?:\x1b\.[()@-Z][0-9;]*:?\s*)+IN;")   # what a driver sets the plotter by (gnuplot: ESC.Y, ESC.I81;;17:) stands before the drawing
 IN_BASE_64 = " in base64, as a mail has it"
 BASE_64 = re.compile(rb"[A-Za-z0-9+/]{40,}[\r\n]")
 
 
 def kind_of(data):
     """What it is, or None where no start fits."""
+    if PLOT.match(data):
+        return "an HP-GL drawing"
     for start, name in STARTS:
         if data.startswith(start):
             return name

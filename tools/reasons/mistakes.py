@@ -135,6 +135,8 @@ IMAGES = [
     Mistake("write t.json job.prn", 611, ("t.json has 1 page, and 0 images",), {"t.json": TICKET}),
     Mistake("write t.json job.prn a.pbm", 612, ("first image a.pbm is 2,401 dots wide", "room for 2,400"),
             {"t.json": TICKET, "a.pbm": b"P4 2401 1\n" + bytes(301)}),
+    Mistake("write t.json job.prn a.pbm", 612, ("first image a.pbm is 2,550 dots wide", "pamcut -left 75 -width 2400 a.pbm > cut.pbm"),
+            {"t.json": TICKET, "a.pbm": b"P4 2550 1\n" + bytes(319)}),
     Mistake("write t.json job.prn a.pbm", 613, ("first image a.pbm is 3,301 dots tall",), {"t.json": TICKET, "a.pbm": b"P4 1 3301\n" + bytes(3301)}),
     Mistake("write t.json job.prn none.pbm", 304, ("first image none.pbm is not there",), {"t.json": TICKET}),
 ]
@@ -144,6 +146,7 @@ STREAMS = [
     printed(b"\x1b@\x1bP", "is an ESC/P stream"),
     printed(b"RaS2PwgRaster\0", "is a raster of PWG or CUPS"),
     printed(b"IN;SP1;PD100,100;", "is an HP-GL drawing"),
+    printed(b"\x1b.Y\n\x1b.I81;;17:\x1b.N;19:\x1b.M500:\nIN;\nSP1;PD100,100;", "is an HP-GL drawing"),
     printed(base64.encodebytes(b"\x1bE" + 60 * b"\x0c"), "is a print stream in base64"),
     printed(SENT.replace(b"\n", b"\r\n"), "was damaged on its way: each line feed (0A) became CR LF (0D 0A), first at byte"),
     printed(SENT.decode("latin-1").encode(), "was damaged on its way: each byte above 127 became two"),

@@ -8,7 +8,8 @@ from typing import NamedTuple
 
 UEL = b"\x1b%-12345X"
 DOT = b"\x1b*c1a1b0P"
-REPEATED = b"\x1b*t300R\x1b*r1A\x1b*b0W\x1b*b3M\x1b*b2W\x00\xf0" + b"\x1b*b0W" * 30 + b"\x1b*rC\x0c"
+WHITE_ROW = b"\x1b*t300R\x1b*r1A\x1b*b0W\x1b*b3M"
+REPEATED = WHITE_ROW + b"\x1b*b2W\x00\xf0" + b"\x1b*b0W" * 30 + b"\x1b*rC\x0c"
 PICTURE = b"\x1b*t300R\x1b*r0A\x1b*b1W\xf0\x1b*rC"
 
 
@@ -18,6 +19,7 @@ class Row(NamedTuple):
     said: tuple          # by `why`, in one finding
     explained: str = ""  # by `explain`, in a line
     first: bool = False  # whether it is the first finding: the cause of a blank page, or of none
+    unsaid: tuple = ()   # in none of its findings
 
 
 ROWS = [
@@ -75,6 +77,7 @@ ROWS = [
         "what follows stands 150 dots below where the margin before it put it"),
     Row("margin that is put back", b"\x1b&l1S\x1b&l0E\x1b&l2A" + DOT + b"\x0c", ("sends ESC&l2A at byte 10", "though the page size stays the same"), ""),
     Row("margin that is put back", b"\x1b&l0E\x1b&l26A" + DOT + b"\x0c", ("sends ESC&l26A at byte 5", "back to half an inch, so what follows"), ""),
+    Row("margin that is put back", b"\x1b&l0E\x1b&l0L\x1b&l48d8E\x1b&l0O" + DOT + b"\x0c", ("sends ESC&l0O at byte 18", "100 dots below"), "", unsaid=("ESC&l0L",)),
     Row("a macro that is not ended", b"\x1bE\x1b&f0X" + DOT + b"\x1bE",
         ("prints no sheet: it sends ESC&f0X at byte 2", "ESC E at byte 16 ends it without ESC&f1X, so the 3 commands behind it are recorded, and lost"),
         "without ESC&f1X, so the 3 commands behind it are recorded, and lost", True),
@@ -84,9 +87,11 @@ ROWS = [
     Row("an overlay of nothing", b"\x1b&f5y0X" + DOT + b"\x1b&f1X\x1b&f4X\x1b&f8X" + DOT + b"\x0c", ("sends ESC&f4X at byte 21", "nothing is laid over it"), ""),
     Row("a row that repeats", REPEATED, ("has 30 rows of no bytes by method 3 (ESC*b0W) from byte 29 on, and each repeats the row above it: 120 black dots", "ESC*b#Y"),
         "a row of no bytes by method 3 repeats the row above it"),
+    Row("a row that repeats", WHITE_ROW + b"\x1b*b2W\x00\xff\x1b*b0W\x1b*b2W\x00\x80" + b"\x1b*b0W" * 30 + b"\x1b*rC\x0c",
+        ("has 30 rows of no bytes by method 3 (ESC*b0W) from byte 41 on", "30 black dots"), ""),
     Row("a white fill", PICTURE + b"\x1b*p0x0Y\x1b*c2a90b1P\x0c", ("has 2 black dots that a fill with white (ESC*c1P at byte 37) erases",),
         "a fill with white erases 2 black dots"),
-    Row("nothing that is asked for", b"\x1b&l66P\x1b&a0P\x1b&l0U\x1b&l0Z\x1b&p0X" + DOT + b"\x0c", ("sends ESC&l66P",), "at 0 it asks for nothing"),
+    Row("nothing that is asked for", b"\x1b&l66P\x1b&a0P\x1b&l0U\x1b&l0Z\x1b&p0X" + DOT + b"\x0c", ("sends ESC&l66P",), "at 0 it asks for nothing", unsaid=("ESC&a", "ESC&l0", "ESC&p")),
     # Text, fonts, other languages
     Row("transparent data", b"\x1b&p3XABC\x0c", ("it is blank: it has 3 bytes of transparent data (ESC&p#X) from byte 0 on", "text leaves no marks"),
         "no row: text leaves no marks", True),
@@ -112,6 +117,9 @@ ROWS = [
     Row("dots beside the page", b"\x1b*p9999Y\x1b*t300R\x1b*r1A\x1b*b2W\xff\xff\x0c", ("it is blank: it loses 16 of the 16 black dots", "16 past the lower edge"),
         "16 dots of 16 past the lower edge are dropped", True),
     Row("dots beside the page", b"\x1b*p2400X\x1b*c100a9b0P\x0c", ("loses 225 of the 900 black dots", "225 past the right edge"), "past the right edge"),
+    Row("dots beside the page", b"\x1b&l0E\x1b&l0L\x1b*p3150Y\x1b*t300R\x1b*r1A\x1b*b1W\xff\x0c",
+        ("it is blank: it loses 8 of the 8 black dots", "8 past the lower edge. ESC&l0L at byte 5 comes before it", "ESC&l#L before ESC&l#E"), "8 dots of 8 past the lower edge", True),
+    Row("dots beside the page", b"\x1b*t600R\x1b*p2300X\x1b*r1A\x1b*b40W" + b"\xff" * 40 + b"\x0c", ("past the right edge. ESC*t600R at byte 0 comes before it", "RESOLUTION=600"), "past the right edge"),
     Row("rows past the raster height", b"\x1b*t300R\x1b*r1T\x1b*r0A\x1b*b1W\xf0\x1b*b1W\xf0\x0c", ("has 1 row past the raster height of 1",),
         "the raster height is 1 row, and it stands past them"),
     Row("a fill of nothing", b"\x1b*c0P\x0c", ("it is blank: it has a fill at byte 0 that marks nothing",), "it marks nothing", True),
@@ -128,6 +136,9 @@ BESIDE = [
     Row("rows under white", PICTURE + b"\x1b*p0x0Y\x1b*c90a90b1P\x0c", ("it is blank: it has dots there that white ones replace, the last by ESC*c1P",), "", True),
     Row("pages that move", b"\x1b*p100Y" + DOT + b"\x0c\x1b*p79Y" + DOT + b"\x0c\x1b*p58Y" + DOT + b"\x0c",
         ("what each of its 3 pages sends first stands 21 dots above that of the page before, on side 2 by ESC*c0P at byte",)),
+    Row("rows that nothing places", b"\x1b*p100Y\x1b*r1A\x1b*b1W\xf0\x0c\x1b*b1W\xf0\x0c\x1b*p100Y\x1b*b1W\xf0\x0c",
+        ("FF at byte 18 ends raster graphics, and nothing places the rows behind it, so on side 2 they begin 62.5 dots above",)),
+    Row("rows that are placed", b"\x1b*p100Y\x1b*r1A\x1b*b1W\xf0\x0c\x1b*r1A\x1b*b1W\xf0\x0c\x1b*p90Y\x1b*b1W\xf0\x0c\x1bE", (), unsaid=("moves from page to page",)),
     Row("a blank front", b"\x1b&l1S\x1b&a2G" + DOT + b"\x0c", ("prints 2 sides, and side 1 is blank: it asks for a blank front",), "", True),
     Row("a page that is open", DOT, ("ends while a page with marks is open",), "the page closes"),
     Row("a macro that is open", b"\x1b&f0X" + DOT, ("prints no sheet: it records all in a macro that is not ended",), "recorded, in macro 0", True),

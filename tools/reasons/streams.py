@@ -70,6 +70,7 @@ class Seen:
         if happening.marks and happening.marks[0].page == number:
             page.marking = happening
         if met is not None:
+            self.judge.note(happening, met[0])
             add_to(page.groups, happening, *met)
             if met[0].name != WHITE_FILL:
                 add_to(self.groups, happening, *met)
@@ -110,7 +111,8 @@ class Seen:
         found += [Finding(None, f"{shown} {cause}", group.advised(judge), group.reason.harmless, not group.reason.loses, judge.side_of(group.first),
                           **facts_of(judge, group))
                   for group in self.met if (group.reason, group.key) not in used and (cause := group.told(judge))]
-        return [*filter(None, [damaged]), *found, *judge.following.moving.finding(shown, judge.side_of), *still_open(shown, self.run)]
+        return [*filter(None, [damaged]), *found, *judge.following.moving.finding(shown, judge.side_of),
+                *judge.following.unplaced.finding(shown, judge.side_of), *still_open(shown, self.run)]
 
 
 def add_to(some, happening, reason, key):

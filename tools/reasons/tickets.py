@@ -90,16 +90,19 @@ def check_images(shown, asked, images, names):
         page = next(page for page in asked.pages if (images[page][0] > room[0] if wide else len(images[page][1]) > room[1]))
         dots = images[page][0] if wide else len(images[page][1])
         raise Found(refused.number, f"{ordinal(page)} image {names[page]} is {dots:,} dots {'wide' if wide else 'tall'}, and "
-                    f"{medium_of(asked)} has room for {room[0 if wide else 1]:,}", advice_for(asked, images, page)) from None
+                    f"{medium_of(asked)} has room for {room[0 if wide else 1]:,}", advice_for(asked, images[page], names[page])) from None
 
 
 def medium_of(asked):
     return asked.media + ("" if asked.resolution == FACTORY_RESOLUTION else f" at {asked.resolution} dots per inch")
 
 
-def advice_for(asked, images, page):
-    """Another resolution is named where the image fits at it."""
-    width, rows = images[page]
+def advice_for(asked, image, name):
+    """The line that cuts an image of a whole side is named; else another resolution where the image fits at it."""
+    (width, rows), side, room = image, asked.size(), asked.room()
+    if width == side.width and len(rows) <= room[1]:
+        return (f"It is as wide as the side, and an image lies on the logical page: cut it by pamcut -left {side.portrait_offset} -width {room[0]} "
+                f"{name} > cut.pbm (Netpbm), which leaves out what a printer does not print")
     for resolution in ticket.RESOLUTIONS if "Resolution" in KEYS else ():
         room = asked._replace(resolution=resolution).room()
         if resolution > asked.resolution and width <= room[0] and len(rows) <= room[1]:

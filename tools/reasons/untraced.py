@@ -208,6 +208,25 @@ def because_of_loss(_, happening):
     return " and ".join(parts) + " are dropped"
 
 
+PUTTING_LOWER = ("top margin", "margin that is put back")
+
+
+def loss_advice(judge, happening):
+    """Where rows came out larger before, or were moved down, this is what lost them."""
+    causes = [(each, reason) for each, reason in judge.before_loss if place_of(each) < place_of(happening) and puts_beside(reason.name, each, happening.sent)]
+    if not causes:
+        return "Look at the resolution of its rows, where they begin, and at the page size: what is past the edge of the page, or of a row, is dropped"
+    each, reason = max(causes, key=lambda cause: place_of(cause[0]))
+    return f"{spelled(each)} {groups.place_of(each)} comes before it: {reason.because(judge, each)}. {reason.advised(judge, each)}"
+
+
+def puts_beside(name, happening, gone):
+    """Whether a command that met the reason of this name may have put dots past the edge where others are gone."""
+    if name == "resolution":
+        return number(happening) > happening.before["raster_resolution"]
+    return gone.below > 0 and name in PUTTING_LOWER
+
+
 def comes_late(_, happening):
     return "rows" if happening.sent.late else None
 
@@ -362,8 +381,8 @@ def turns_rows(_, happening):
     return "rows" if meets and pages.is_landscape(happening.before["orientation"]) else None
 
 
-def margin_is_put_back(_, happening):
-    return "margin" if with_row(happening, "&lL") and any(name == "top_margin" for name, _, _ in happening.changes) else None
+def margin_is_put_back(judge, happening):
+    return "margin" if with_row(happening, "&lL") and place_of(happening) in judge.following.put_back else None
 
 
 def because_of_margin(_, happening):
@@ -417,9 +436,7 @@ REASONS = [
     Reason("resolution", other_resolution, because_of_resolution, resolution_advice, blanks=True),
     Reason("planes", colour, because_of_colour, BLACK, groups.first_of_many, True, loses=True, name_of=groups.of_a_kind),
     Reason("method", other_method, because_of_method, "Have the driver compress by one of these: " + LASER, blanks=True),
-    Reason("dots beside the page", loses, because_of_loss,
-           "Look at the resolution of its rows, where they begin, and at the page size: what is past the edge of the page, or of a row, is dropped",
-           groups.lost, True, loses=True),
+    Reason("dots beside the page", loses, because_of_loss, loss_advice, groups.lost, True, loses=True),
     Reason("data that is taken", takes_data, because_of_data, "Leave it out: " + LASER, blanks=True),
     Reason("what is left of a command", remains, lambda *_: "it is left of a command whose first bytes were taken as data",
            "", groups.silent),
@@ -501,6 +518,7 @@ class Judge:
         self.registered = {}                        # the first value of each edge for which a registration asks
         self.following = following.Following(run)
         self.next = None                            # what stands behind the happening that is judged
+        self.before_loss = []                       # what may put dots past an edge, and its reason
 
     def judged(self, in_order=False):
         """Each happening with its reason and key, or None, once all that decides them was seen: those that wait for it come later, but `in_order`, where
@@ -563,6 +581,11 @@ class Judge:
                 self.left_until = max(self.left_until, self.read_over(happening)[1])
             if letters(command) in REGISTERED:
                 self.registered.setdefault(letters(command), command.value().tenthousandths)
+
+    def note(self, happening, reason):
+        """Notes what the advice on another happening may be about."""
+        if reason.name == "resolution" or reason.name in PUTTING_LOWER:
+            self.before_loss.append((happening, reason))
 
     def cost_of(self, happening):
         """The commands that begin in the data that was taken, as they would be read there."""

@@ -55,6 +55,24 @@ MATCHED = [
     Row("matches {}/netpbm-pbmtolj.pcl" + ARROW, 1, ("page 1: whole, moved 225 dots left and 263 dots up: all 1,830 dots", NO_CAUSE)),      # it was given the arrow alone
     Row("matches {}/mupdf-draw.pcl" + ARROW, 1, ("page 1: other: ", NO_CAUSE)),      # ESC*b2M is lost, as above
     Row("matches {}/gnuplot-pcl5.pcl" + ARROW, 1, ("page 1: there is no such side", NO_CAUSE)),      # HP-GL/2, of another picture
+    Row("matches --no-cause {}/gnuplot-hpgl.prn" + ARROW, 1, ("page 1: blank: ",)),      # HP-GL, of another picture
+    Row("matches --no-cause {}/ghostscript-epson.prn" + ARROW, 1, ("page 1: blank: ",)),      # ESC/P
+    Row("matches --no-cause {}/cups-pwg.prn" + ARROW, 1, ("page 1: blank: ",)),      # a raster
+    Row("matches --no-cause {}/foomatic-laserjet-4.prn" + ARROW, 1, ("page 1: blank: none of 1,830 dots",)),      # a printer of 600 is wanted
+    Row(AT_600 + "--no-cause {}/foomatic-laserjet-4.prn" + ARROW, 1, ("page 1: whole, moved 150 dots right: all 7,320 dots",)),      # ESC&l-180U
+    Row("matches --no-cause {}/foomatic-ljet4-duplex.prn {}/two-arrows.ps", 1,
+        ("page 1: whole, moved 75 dots right: all 1,830 dots\npage 2: whole, moved 75 dots right: all 1,830 dots\n",)),      # the same; why names the front that goes out alone
+    Row("matches --no-cause {}/foomatic-hpijs-duplex.prn {}/two-arrows.ps", 1, ("page 1: other: 773 of 7,320 dots lacking\n", "page 2: other: 780 of 7,320 dots lacking\n")),      # the driver's own pattern, and ESC&l0O
+    Row("matches --no-cause {}/hpijs-laserjet-4l.prn" + ARROW, 1, ("page 1: other: 182 of 1,830 dots lacking\n",)),      # the same
+    Row("matches --no-cause {}/cups-laserjet-two-pages.pcl {}/large-arrows.ps", 1, ("page 1: whole, moved 1 dot left and 150 dots down: all 7,320 dots\n", "page 2: whole, moved 1 dot left: ")),   # ESC&l0L, and the driver's own dot
+    Row("matches {}/cups-generpcl-low.pcl {}/low-arrow.ps", 1,
+        ("page 1: cut at the lower edge, moved 150 dots down: 190 of 1,830 dots lacking\n  without par &l0L (command 10): whole, in its place: all 1,830 dots\n",)),
+    Row("matches --no-cause {}/gutenprint-pcl-5e-a4.pcl" + ARROW, 1, ("page 1: whole, moved 29 dots right and 1 dot down: all 1,830 dots",)),      # no command does it
+    Row("matches --no-cause {}/gutenprint-pcl-5e-600.pcl" + ARROW, 1, ("page 1: other: 1,830 of 1,830 dots lacking",)),      # a printer of 600 is wanted
+    Row(AT_600 + "{}/gutenprint-pcl-5e-600.pcl" + ARROW, 0, ("page 1: whole, in its place: all 7,320 dots\n",)),
+    Row("matches --no-cause {}/hpcups-three-pages.prn {}/arrow.ps {}/two-arrows.ps", 1,
+        ("page 1: nearly whole, moved 1 dot up: all 7,320 dots, 1 others\n", "page 2: nearly whole, moved 42 dots up", "page 3: nearly whole, moved 42 dots up")),
+    Row("matches {}/netpbm-pbmtolj-delta.pcl {}/../images/back.pbm", 1, ("page 1: other: all 1,830 dots, 241 others", NO_CAUSE)),      # each ESC*b0W repeats one row
     Row("matches {}/netpbm-pbmtolj.pcl {}/../images/back.pbm", 0, ("page 1: whole, at 75,37: all 1,830 dots\n",)),
     Row("matches {}/hpcups-laserjet-4000.prn {}/../images/back.pbm", 1, ("page 1: nearly whole, at 600,599: all 7,320 dots, 1 others, each 2 by 2\n",)),
     Row("matches --at 300,300 {}/cups-laserjet.pcl {}/../images/back.pbm", 1, ("moved 150 dots down", "without par &l0L (command 10): whole, in its place")),
