@@ -49,3 +49,17 @@ _network() {
   fi
 }
 complete -o filenames -F _network tools/printer tools/scrub tools/jmf
+# the tools that take streams
+_streams() {
+  local word="${COMP_WORDS[COMP_CWORD]}"
+  if [ "${COMP_WORDS[COMP_CWORD-1]}" = --default ]; then
+    mapfile -t COMPREPLY < <(compgen -W "RESOLUTION=600 PAPER=A4 PAPER=LETTER DUPLEX=ON" -- "$word")
+  elif [ "${COMP_WORDS[0]}" = tools/regress ] && [ "$COMP_CWORD" -eq 1 ]; then
+    mapfile -t COMPREPLY < <(compgen -W "record check" -- "$word")
+  elif [[ "$word" == -* ]]; then
+    mapfile -t COMPREPLY < <(compgen -W "$("${COMP_WORDS[0]}" --help 2>/dev/null | grep -o -e '--[a-z][a-z-]*' | sort -u)" -- "$word")
+  else
+    mapfile -t COMPREPLY < <(compgen -f -- "$word")
+  fi
+}
+complete -o filenames -F _streams tools/explain tools/show tools/step tools/pictures tools/differ tools/matches tools/shrink tools/regress
