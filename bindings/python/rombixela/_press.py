@@ -55,8 +55,8 @@ class _Answer(ctypes.Structure):
     _fields_ = [("fault", ctypes.c_uint32), ("bytes", ctypes.c_uint64), ("put", ctypes.c_uint64)]
 
 
-_TAKEN = {"print": 2, "list": 2, "trace": 2, "disasm": 1, "asm": 1, "write": 2, "session": 2, "version": 0}   # how many lists of bytes each call takes
-_NUMBERS = {"session": 1}                                                                                       # and how many numbers before them
+_TAKEN = {"print": 2, "list": 2, "sums": 2, "trace": 2, "disasm": 1, "asm": 1, "write": 2, "session": 2, "version": 0}   # the lists of bytes that each call takes
+_NUMBERS = {"session": 1}   # and how many numbers stand before them
 
 
 def _opened() -> ctypes.CDLL:
