@@ -67,6 +67,16 @@ fn a_line_is_its_bytes(rt: HostRuntime) -> Result<(), Fail> {
 }
 
 #[test]
+fn a_page_has_no_change_from_its_copy(rt: HostRuntime) -> Result<(), Fail> {
+    let page = Bitmap::blank(rt.alloc(), 10, 2)?;
+    let copy = page.copy()?;
+    assert!(rt; page.changed(&copy).is_none());
+    assert!(rt; page.changed_between(&copy, 0, 2).is_none());
+    assert!(rt; page.changed_between(&copy, 2, 0).is_none());
+    Ok(())
+}
+
+#[test]
 fn bands_are_ready_where_they_were_made(rt: HostRuntime) -> Result<(), Fail> {
     let mut page = Bitmap::blank(rt.alloc(), 10, 144)?;
     page.paint_row(0, 64, DotRow::black(), DotRow::black(), TRANSPARENT)?;
