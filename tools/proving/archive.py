@@ -1,4 +1,4 @@
-"""The archive of the press for C: the crate press_library, as it was built of what was proved."""
+"""The archive of the press for C: the crate press_library, as it was built of what was proved, or compiled without a proof."""
 
 import os
 import subprocess
@@ -6,7 +6,7 @@ import sys
 import time
 from pathlib import Path
 
-from proving import shared, sources, standing
+from proving import compiled_archive, shared, sources, standing
 from seen import kit, program
 
 CRATE = program.ROOT / "crates" / sources.LIBRARY
@@ -41,11 +41,43 @@ def prove(in_place):
     note_proved(given, "tools/library")
 
 
-def find(in_place):
+def at_once():
+    """The archive that was proved of these sources; else one that is compiled of them, which is said."""
+    if is_proved():
+        return ARCHIVE
+    kit.say("the library is not proved on this machine; tools/library --prove proves it here")
+    return compiled_archive.find()
+
+
+def after_proof(in_place=False):
     """The archive of these sources; it is proved, if it is not yet."""
     if not is_proved():
         prove(in_place)
     return ARCHIVE
+
+
+def by_proof():
+    """The archive that was proved of these sources, or none."""
+    if not is_proved():
+        raise FileNotFoundError("none is proved here of these sources; tools/library --prove proves it")
+    return ARCHIVE
+
+
+CHOICES = {"prove": (after_proof, "prove it first, if it is not"), "proved": (by_proof, "the proved one, or none"),
+           "compiled": (compiled_archive.find, "the one that is compiled without a proof"),
+           "in-place": (lambda: after_proof(True), "prove it in the folder of its crate, if it is not")}
+
+
+def add_options(parser):
+    """Which archive is wanted."""
+    choices = parser.add_mutually_exclusive_group()
+    for name, (call, meaning) in CHOICES.items():
+        choices.add_argument(f"--{name}", dest="archive_by", action="store_const", const=call, help=meaning)
+
+
+def chosen(arguments):
+    """The archive that is wanted."""
+    return (arguments.archive_by or at_once)()
 
 
 def put_together(made, to):

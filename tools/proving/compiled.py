@@ -55,11 +55,11 @@ def home():
     return Path(os.path.realpath(kit.find())).parent.parent
 
 
-def sum_of_code():
-    """A sum of all that is compiled, and of the kit."""
+def sum_of_code(of=sources.PROGRAM):
+    """A sum of all that is compiled of the program, or of the archive of another name, and of the kit."""
     found = hashlib.sha256(sources.kit().encode())
     rows = sources.rows_of(ROOT)
-    for name in sources.below(rows, sources.PROGRAM):
+    for name in sources.below(rows, of):
         found.update(repr((name, rows[name])).encode())
         for path in sorted((ROOT / "crates" / name / "src").glob("**/*.rt")):
             found.update(repr((str(path.relative_to(ROOT)), path.read_bytes())).encode())
@@ -104,12 +104,12 @@ def linked_kit(room, taken):
     return here / "bin/rt"
 
 
-def make_module(room):
-    """Has the kit lower the program with its checks: the module."""
+def make_module(room, crate=CRATE):
+    """Has the kit lower the program of a crate with its checks: the module."""
     taken = room / "module.bc"
     with open(room / "said", "wb") as lines:
         asked = [linked_kit(room, taken), "try", "--seconds", "1", "--", "--help"]
-        running = subprocess.Popen(asked, cwd=CRATE, stdin=subprocess.DEVNULL, stdout=lines, stderr=lines, start_new_session=True,
+        running = subprocess.Popen(asked, cwd=crate, stdin=subprocess.DEVNULL, stdout=lines, stderr=lines, start_new_session=True,
                                    env={**os.environ, "TMPDIR": str(room)})
         try:
             while running.poll() is None and not taken.exists():
@@ -130,11 +130,16 @@ def run(words):
         raise NotCompiled(ran.stderr[-2000:].strip() or f"{words[0]} ended with status {ran.returncode}")
 
 
+def make_object(module, level, to):
+    """Compiles a module to an object that can be linked, in parts side by side."""
+    run([home() / "toolchain/bin/ld.lld", "-r", *FLAGS, f"--lto-O{level}", f"--lto-CGO{level}", f"--lto-partitions={PARTS}", module, "-o", to])
+
+
 def make_program(module, level, room, to):
     """Compiles and links the module, and gives the program its name when it is whole."""
     given = home()
     made, whole = room / f"program-{level}.o", room / f"program-{level}"
-    run([given / "toolchain/bin/ld.lld", "-r", *FLAGS, f"--lto-O{level}", f"--lto-CGO{level}", f"--lto-partitions={PARTS}", module, "-o", made])
+    make_object(module, level, made)
     run([given / "bin/rattle-link", "--target", TARGET, "--toolchain", given / "toolchain", "-o", whole, made,
          given / "c/libos_c.a", given / "c/liblibc_c.a"])
     text = whole.read_bytes()
@@ -162,7 +167,7 @@ def name_of(code, level):
 def remove_older(code):
     """Removes what was made of other sources."""
     for path in FOLDER.iterdir():
-        if path.is_file() and not path.name.startswith((code, "first", "fast")):
+        if path.is_file() and not path.name.startswith((code, "first", "fast", "library")):
             path.unlink(missing_ok=True)
 
 

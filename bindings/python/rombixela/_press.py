@@ -2,8 +2,10 @@
 
 from __future__ import annotations
 
+import contextlib
 import ctypes
 import json
+import mmap
 import os
 import re
 from pathlib import Path
@@ -37,7 +39,9 @@ TEXTS: Dict[int, str] = {
 }
 
 LINES = 1 << 16     # bytes of room for lines at first
-SIDE = re.compile(rb"sheet \d+ (?:front|back) (\d+)x(\d+) black \d+\n")
+PAGES = 1 << 25     # and for pages, with so many more for each byte of a stream, and at most so many
+FOR_A_BYTE, MOST = 512, 1 << 32
+SMALL = 1 << 22     # bytes at the front of the room for pages that are not taken in large pieces of memory
 HEADER = re.compile(rb"P4\n(\d+) (\d+)\n")
 
 
@@ -72,23 +76,55 @@ def _opened() -> ctypes.CDLL:
 _LIBRARY = _opened()
 
 
-def _written(name: str, room: int, *given: Bytes, before: Sequence[int] = ()) -> bytearray:
-    """What a call writes. The room is made as large as it has to be."""
+def _asked(name: str, buffer: Any, *given: Bytes, before: Sequence[int] = ()) -> _Answer:
+    """A call with this buffer as its room."""
     words: List[Any] = list(before)
     for one in given:
         one = bytes(one)
         words += [one, len(one)]
+    place = (ctypes.c_char * len(buffer)).from_buffer(buffer)
+    return getattr(_LIBRARY, f"rombixela_{name}")(*words, ctypes.addressof(place), len(buffer))
+
+
+def _fault(number: int, written: Bytes) -> Fault:
+    return Fault(number, TEXTS.get(number, "see docs/FAULTS.md"), bytes(written))
+
+
+def _written(name: str, room: int, *given: Bytes, before: Sequence[int] = ()) -> bytearray:
+    """What a call writes. The room is made as large as it has to be."""
     while True:
         buffer = bytearray(room)
-        place = (ctypes.c_char * room).from_buffer(buffer)
-        answer = getattr(_LIBRARY, f"rombixela_{name}")(*words, ctypes.addressof(place), room)
-        del place
+        answer = _asked(name, buffer, *given, before=before)
         if answer.bytes == answer.put:
             del buffer[answer.put:]
             if answer.fault:
-                raise Fault(answer.fault, TEXTS.get(answer.fault, "see docs/FAULTS.md"), bytes(buffer))
+                raise _fault(answer.fault, buffer)
             return buffer
         room = answer.bytes
+
+
+def _memory(size: int) -> mmap.mmap:
+    """Room that takes no memory before it is written to, and then in large pieces, where the system has them."""
+    room = mmap.mmap(-1, size)
+    if size > SMALL:
+        with contextlib.suppress(AttributeError, OSError):
+            room.madvise(mmap.MADV_HUGEPAGE, SMALL)
+    return room
+
+
+def _printed(settings: bytes, data: Bytes) -> memoryview:
+    """The P4 files of the pages of a stream, one behind the other. Most streams need one call, since the room that is not written to costs nothing."""
+    size = min(PAGES + FOR_A_BYTE * len(data), MOST)
+    while True:
+        room = _memory(size)
+        answer = _asked("print", room, settings, data)
+        if answer.bytes == answer.put:
+            files = memoryview(room).toreadonly()[:answer.put]
+            if answer.fault:
+                raise _fault(answer.fault, files)
+            return files
+        room.close()
+        size = answer.bytes
 
 
 def _settings(defaults: Mapping[str, object]) -> bytes:
@@ -140,36 +176,22 @@ class Page:
         return f"<Page {self.width}x{self.height}>"
 
 
-def _pages(files: bytearray) -> Iterator[Page]:
+def _pages(files: memoryview) -> Iterator[Page]:
     """The pages of P4 files that stand one behind the other."""
-    view, at = memoryview(files).toreadonly(), 0
+    at = 0
     while at < len(files):
         header = HEADER.match(files, at)
         assert header
         width, height = int(header[1]), int(header[2])
         begin = header.end()
         at = begin + (width + 7) // 8 * height
-        yield Page(width, height, view[begin:at])
-
-
-def _room_of(listed: Bytes) -> int:
-    """How many bytes the P4 files of the sides of a listing have, which takes a tenth of the time that their pages take."""
-    room = at = 0
-    while side := SIDE.match(listed, at):
-        at, width, height = side.end(), int(side[1]), int(side[2])
-        room += len(b"P4\n%d %d\n" % (width, height)) + (width + 7) // 8 * height
-    return room
+        yield Page(width, height, files[begin:at])
 
 
 def print_stream(data: Bytes, defaults: Mapping[str, object] = {}) -> List[Page]:
     """The pages that a stream prints: the sides of its sheets in order, a back behind its front. `defaults` are the printer's own settings, as
     `{"RESOLUTION": 600, "PAPER": "A4"}`."""
-    settings = _settings(defaults)
-    try:
-        room = _room_of(_written("list", LINES, settings, data))
-    except Fault as fault:
-        room = _room_of(fault.written)
-    return list(_pages(_written("print", room, settings, data)))
+    return list(_pages(_printed(_settings(defaults), data)))
 
 
 def listing(data: Bytes, defaults: Mapping[str, object] = {}, sums: bool = False) -> str:
