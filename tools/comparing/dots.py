@@ -112,23 +112,30 @@ def tiles(old, new):
     """Of each tile of 64 by 64 dots in which some differ, what a region of these dots is."""
     pad, across, found = -old.width % TILE, -(-old.width // TILE), {}
     for line, (one, other) in enumerate(zip(old.rows, new.rows)):
-        left = (one ^ other) << pad
+        if one == other:
+            continue
+        left, one = (one ^ other) << pad, one << pad
         while left:
             number = ((left & -left).bit_length() - 1) // TILE
             some = left >> number * TILE & FULL
             left ^= some << number * TILE
-            key, end = (across - 1 - number, line // TILE), (across - number) * TILE
-            gone = some & (one << pad) >> number * TILE
-            part = part_of(line, end, some, gone, some ^ gone)
-            found[key] = found[key].joined(part) if key in found else part
-    return found
+            gone = some & one >> number * TILE
+            found.setdefault((across - 1 - number, line // TILE), []).append((line, some, gone))
+    return {key: region_of((key[0] + 1) * TILE, lines) for key, lines in found.items()}
 
 
-def part_of(line, end, some, gone, come):
-    """The region of some dots of a line that stand before a column."""
-    firsts = [(line, end - bits.bit_length()) if bits else None for bits in (gone, come)]
-    box = Box(end - some.bit_length(), line, end - (some & -some).bit_length(), line)
-    return Region(box, gone.bit_count(), come.bit_count(), *firsts)
+def region_of(end, lines):
+    """The region of dots of a tile that ends before a column: of each line the dots that differ, and those of them that only the old has."""
+    across, only_old, only_new, first_old, first_new = 0, 0, 0, None, None
+    for line, some, gone in lines:
+        across |= some
+        only_old += gone.bit_count()
+        only_new += (some ^ gone).bit_count()
+        if gone and first_old is None:
+            first_old = line, end - gone.bit_length()
+        if some != gone and first_new is None:
+            first_new = line, end - (some ^ gone).bit_length()
+    return Region(Box(end - across.bit_length(), lines[0][0], end - (across & -across).bit_length(), lines[-1][0]), only_old, only_new, first_old, first_new)
 
 
 def groups(keys, through=frozenset()):

@@ -28,6 +28,7 @@ class Maker(NamedTuple):
     byte: int              # where its command stands
     text: str              # as assembly text has it
     name: str              # what HP calls it
+    effect: str            # what it did
     bodies: tuple          # the macros and overlays that it stands in
     runs_at: int           # where the command of the stream stands that it belongs to
     movers: dict           # of each such field the commands that changed it, the last at the end
@@ -39,7 +40,8 @@ class Maker(NamedTuple):
         return f"byte {self.byte}: {self.text} ({self.name}){body}" + (f", run at byte {self.runs_at}" if self.bodies else "")
 
     def as_json(self):
-        return {"byte": self.byte, "step": self.step, "command": self.text, "name": self.name, "in": list(self.bodies), "run_at": self.runs_at}
+        return {"byte": self.byte, "step": self.step, "command": self.text, "name": self.name, "effect": self.effect, "in": list(self.bodies),
+                "run_at": self.runs_at}
 
 
 def text_of(command):
@@ -48,16 +50,25 @@ def text_of(command):
 
 
 class Makers:
-    """The steps that made some dots of the pages of a stream what they are: dots are pairs of line and column, asked of each page."""
+    """The steps that made some dots of the pages of a stream what they are: dots are pairs of line and column, asked of each page up to that of the last
+    file that is looked at; what follows is not read."""
 
-    def __init__(self, stream, front, wanted, chosen=program.PROGRAM):
+    def __init__(self, stream, front, wanted, last, chosen=program.PROGRAM):
         self.wanted, self.made, self.closers, self.shift = sorted(wanted), {}, {}, len(front)
         self.movers = {name: collections.deque(maxlen=KEPT) for name in PLACING}
         self.last = 0, None, None     # the step before: the page that was open before it, its line and step
-        self.run = happenings.Run(stream, front=front, chosen=chosen, watch=self.look).read()
-        self.note_close(self.run)
-        told = self.run.pages_of_sides()
-        self.pages = [told[place][0] for place in sides.places_of_files(told)]
+        run = happenings.Run(stream, front=front, chosen=chosen, watch=self)
+        for each in run:
+            if each.sheets and len(self.pages_of(run)) >= last:
+                run.stop()
+                break
+        self.note_close(run)
+        self.pages, self.last = self.pages_of(run), None
+
+    def pages_of(self, run):
+        """For each file of a side so far the number of its page."""
+        told = run.pages_of_sides()
+        return [told[place][0] for place in sides.places_of_files(told)]
 
     def maker(self, number, dot, is_black):
         """The step that made a dot of the file of this number, from 1; None where nothing did. The trace does not tell what the last command of an
@@ -66,43 +77,56 @@ class Makers:
         made, black = self.made.get((page, dot), (None, False))
         return made if black == is_black else self.closers.get(page)
 
-    def look(self, run, line, step):
+    def __call__(self, run, line, step):
         """Notes what a line tells of the dots, before the page goes on by it."""
         self.note_close(run)
         self.last = run.leaves.closed, line, step
-        if step is not None:
-            self.note_moves(step)
-            if line.get("page"):
-                self.note_dots(line["page"], line, step, run.leaves.closed, None if "opened" in line else run.marks.page)
+        if step is None:
+            return
+        self.note_moves(step)
+        if line.get("page"):
+            patch, page = run.marks.patch_of(line), run.leaves.closed
+            self.note_dots(patch, page, lambda: self.of(happenings.of_step(line, step, page, patch), line, step.stack))
+
+    def row(self, run, step, row, _):
+        """The same of a row within raster graphics."""
+        self.note_close(run)
+        self.last = run.leaves.closed, None, None
+        if row.patch:
+            self.note_dots(row.patch, row.page, lambda: self.of(row, {"step": step, "at": row.offset + self.shift}, ()))
 
     def note_close(self, run):
         """Notes the last step where a page closed in it, and its command stands in a body."""
         page, line, step = self.last
         if run.leaves.closed != page and step is not None and step.stack:
-            self.closers[page] = self.of(line, step)
+            self.closers[page] = self.of(happenings.of_step(line, step, page), line, step.stack)
 
-    def note_dots(self, patch, line, step, page, before):
-        left, right, made = patch["x"], patch["x"] + patch["width"], None
-        first = bisect.bisect_left(self.wanted, (patch["y"], left))
-        last = bisect.bisect_left(self.wanted, (patch["y"] + patch["height"], 0))
-        for row, column in self.wanted[first:last]:
-            if left <= column < right:
-                black = bool(int(patch["rows"][row - patch["y"]][(column - left) // 4], 16) >> 3 - (column - left) % 4 & 1)
-                if black != (before is not None and bool(before.rows[row][column // 8] >> 7 - column % 8 & 1)):
-                    made = made or self.of(line, step)
-                    self.made[page, (row, column)] = made, black
+    def note_dots(self, patch, page, make):
+        """Notes those of the dots that a patch turns, and by which command."""
+        first = bisect.bisect_left(self.wanted, (patch.top, 8 * patch.left))
+        last = bisect.bisect_left(self.wanted, (patch.top + len(patch.spelled), 0))
+        if first == last:
+            return
+        left, top, rows, old = patch.whole()
+        made = None
+        for line, column in self.wanted[first:last]:
+            if 8 * left <= column < 8 * (left + len(rows[0])):
+                black, before = rows[line - top][column // 8 - left] >> 7 - column % 8 & 1, old[line - top][column // 8] >> 7 - column % 8 & 1
+                if black != before:
+                    made = made or make()
+                    self.made[page, (line, column)] = made, bool(black)
 
     def note_moves(self, step):
         before, after, command = step.before, step.after, step.placed.command
         for name in OWN if before.base is after.base else PLACING:
             if before[name] != after[name] and letters(command) not in SENDING:
-                self.movers[name].append(Mover(step.placed.offset - self.shift, text_of(command), after[name]))
+                self.movers[name].append(Mover(step.placed.offset, text_of(command), after[name]))
 
-    def of(self, line, step):
-        command = step.placed.command
-        return Maker(line["step"], step.placed.offset - self.shift, text_of(command), printable(remarks.name_of(command)),
-                     tuple(body.name() for body in step.stack), line["at"] - self.shift, {name: list(some) for name, some in self.movers.items()},
-                     {name: step.before[name] for name in PLACING}, step.before["unit"])
+    def of(self, happening, line, stack):
+        placed, before = happening.placed, happening.before
+        return Maker(line["step"], placed.offset, text_of(placed.command), printable(remarks.name_of(placed.command)),
+                     printable(remarks.effect_of(happening, before["pattern_id"])), tuple(body.name() for body in stack), line["at"] - self.shift,
+                     {name: list(some) for name, some in self.movers.items()}, {name: before[name] for name in PLACING}, before["unit"])
 
 
 def movers_that_differ(old, new):

@@ -2,8 +2,10 @@
 
 import collections
 import difflib
+import functools
 import hashlib
 import itertools
+import os
 import re
 from concurrent.futures import ThreadPoolExecutor
 from pathlib import Path
@@ -48,6 +50,12 @@ def summed(stream, chosen=program.PROGRAM):
     return listed(["--list", "--sums"], stream, chosen)
 
 
+def with_file(folder, side):
+    """A side with its P4 file, and the digest of that."""
+    path = folder / pages_of.TEMPLATE.replace("%d", str(side.number))
+    return side._replace(path=path, digest=hashlib.sha256(path.read_bytes()).hexdigest())
+
+
 def printed(folder, stream, chosen=program.PROGRAM):
     """The same with a P4 file for each side in a folder, of which the digests are taken."""
     found = listed(["--list"], stream, chosen)
@@ -55,8 +63,8 @@ def printed(folder, stream, chosen=program.PROGRAM):
         raise ValueError(f"{len(found.sides):,} sides come out, and at most {MOST_FILES:,} are compared")
     folder.mkdir(exist_ok=True)
     pages_of.asked(["print", "-", pages_of.TEMPLATE], stream, chosen, folder)
-    paths = [folder / pages_of.TEMPLATE.replace("%d", str(side.number)) for side in found.sides]
-    return found._replace(sides=[side._replace(path=path, digest=hashlib.sha256(path.read_bytes()).hexdigest()) for side, path in zip(found.sides, paths)])
+    with ThreadPoolExecutor(os.cpu_count()) as pool:
+        return found._replace(sides=list(pool.map(functools.partial(with_file, folder), found.sides)))
 
 
 def both_printed(folder, old, new, chosen=program.PROGRAM):

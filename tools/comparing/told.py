@@ -1,6 +1,8 @@
 """What is said of two streams that print other sheets: as data, and in sentences."""
 
-from concurrent.futures import ThreadPoolExecutor
+import multiprocessing
+import os
+from concurrent.futures import ProcessPoolExecutor
 from typing import NamedTuple, Optional
 
 from model.values import POSITIONS_PER_INCH
@@ -10,6 +12,7 @@ from seen.pages_of import RESOLUTIONS
 from . import dots, makers
 
 MOST_SIDES, MOST_REGIONS = 20, 6     # whose commands are told
+NO_COMMAND = "no command"
 
 
 class Differing(NamedTuple):
@@ -19,24 +22,41 @@ class Differing(NamedTuple):
     regions: list
 
 
+def mapped(function, some):
+    """What a function makes of each, by processes side by side."""
+    if len(some) < 2:
+        return list(map(function, some))
+    with ProcessPoolExecutor(min(len(some), os.cpu_count()), multiprocessing.get_context("fork")) as pool:
+        return list(pool.map(function, some))
+
+
 def differing(changes):
     """The sides that differ of each pair of sheets, and those that only one of the two has."""
+    pairs = list(pairs_of(changes))
+    return [Differing(old, new, regions) for (old, new), regions in zip(pairs, mapped(regions_of, pairs))]
+
+
+def regions_of(pair):
+    old, new = pair
+    if old is None or new is None or (old.width, old.height) != (new.width, new.height):
+        return []
+    return dots.regions(dots.side_in(old.path), dots.side_in(new.path))
+
+
+def pairs_of(changes):
+    """Of the sides that differ the old and the new; None where only one of the two is there."""
     for change in changes:
         if change.what != "differs":
             continue
         names = dict.fromkeys(side.name for side in [*change.old, *change.new])
         for name in names:
             old, new = (next((side for side in sheet if side.name == name), None) for sheet in (change.old, change.new))
-            if old is None or new is None or (old.width, old.height) != (new.width, new.height):
-                yield Differing(old, new, [])
-            elif old.digest != new.digest:
-                yield Differing(old, new, dots.regions(dots.side_in(old.path), dots.side_in(new.path)))
+            if old is None or new is None or old.shape() != new.shape():
+                yield old, new
 
 
-def asked_dots(some):
-    """The dots whose commands are told."""
-    regions = [region for each in some[:MOST_SIDES] for region in each.regions[:MOST_REGIONS]]
-    return {dot for region in regions for dot in (region.first_old, region.first_new) if dot}
+def makers_of(asked):
+    return makers.Makers(*asked)
 
 
 class Told(NamedTuple):
@@ -53,20 +73,34 @@ class Told(NamedTuple):
                 "moved_by": [[each and {"byte": each.byte, "command": each.text} for each in pair] for pair in self.movers]}
         return {**told, "shift": list(region.shift)} if region.shift else told
 
-    def lines(self, resolution):
-        region, box = self.region, self.region.box
+    def what(self, resolution):
+        """What became of its dots."""
+        region = self.region
         what = f"{counted(region.only_old, 'dot')} only in the old, {region.only_new:,} only in the new"
         if region.shift:
-            what = f"shifted by {shift_told(region.shift, resolution, self.new or self.old)} ({what})"
-        yield f"  {box.left},{box.top} to {box.right},{box.bottom}: {what}"
-        for which, maker, dot in (("old", self.old, region.first_old), ("new", self.new, region.first_new)):
-            yield f"    {which}, {'black' if dot else 'white'} by " + (maker.told() if maker else "no command")
+            return f"shifted by {shift_told(region.shift, resolution, self.new or self.old)} ({what})"
+        return what
+
+    def both(self):
+        """Of the old and of the new: its name, what the first dot is there, and the command that made it so."""
+        return (("old", "black" if self.region.first_old else "white", self.old), ("new", "black" if self.region.first_new else "white", self.new))
+
+    def lines(self, resolution):
+        box = self.region.box
+        yield f"  {box.left},{box.top} to {box.right},{box.bottom}: {self.what(resolution)}"
+        for which, shade, maker in self.both():
+            yield f"    {which}, {shade} by " + (maker.told() if maker else NO_COMMAND)
+        for line in self.places():
+            yield f"    {line}"
+
+    def places(self):
+        """By which commands its place is another."""
         for one, other in self.movers:
-            yield f"    the place is set by {mover_told(one)} in the old, and by {mover_told(other)} in the new"
+            yield f"the place is set by {mover_told(one)} in the old, and by {mover_told(other)} in the new"
 
 
 def mover_told(mover):
-    return f"byte {mover.byte}: {mover.text}" if mover else "no command"
+    return f"byte {mover.byte}: {mover.text}" if mover else NO_COMMAND
 
 
 def shift_told(shift, resolution, maker):
@@ -86,14 +120,15 @@ def told_of(region, each, found):
     return Told(region, old, new, list(makers.movers_that_differ(old, new)) if old and new else [])
 
 
-def of_sides(some, streams, front, chosen):
-    """Each side that differs with what is told of its largest regions."""
-    if not any(each.regions for each in some):
-        return [(each, []) for each in some]
-    with ThreadPoolExecutor(2) as pool:
-        found = list(pool.map(lambda stream: makers.Makers(stream, front, asked_dots(some), chosen), streams))
-    return [(each, [told_of(region, each, found) for region in each.regions[:MOST_REGIONS]] if place < MOST_SIDES else [])
-            for place, each in enumerate(some)]
+def of_sides(some, streams, front, chosen, most=MOST_REGIONS):
+    """Each side that differs with what is told of so many regions, the largest first."""
+    told = [(each, each.regions[:most] if place < MOST_SIDES else []) for place, each in enumerate(some)]
+    wanted = {dot for _, regions in told for region in regions for dot in (region.first_old, region.first_new) if dot}
+    if not wanted:
+        return told
+    last = [max(number) for number in zip(*((each.old.number, each.new.number) for each, regions in told if regions))]
+    found = mapped(makers_of, [(stream, front, wanted, number, chosen) for stream, number in zip(streams, last)])
+    return [(each, [told_of(region, each, found) for region in regions]) for each, regions in told]
 
 
 def name_of(side):
@@ -112,7 +147,14 @@ def lines_of_sheets(changes):
             yield f"sheet {new} of the new is not in the old" + (f": a copy of sheet {change.copy_of} more" if change.copy_of else "")
 
 
+def counts_of(each):
+    """How many dots of a side differ."""
+    gone, come = sum(region.only_old for region in each.regions), sum(region.only_new for region in each.regions)
+    return f"{counted(gone, 'dot')} only in the old, {come:,} only in the new, in {counted(len(each.regions), 'region')}"
+
+
 def lines_of_sides(told):
+    """What is told of each side, of its largest regions alone."""
     for each, regions in told:
         if each.old is None or each.new is None:
             yield f"{name_of(each.old or each.new)} is in the {'old' if each.old else 'new'} alone"
@@ -121,9 +163,8 @@ def lines_of_sides(told):
         if not each.regions:
             yield f"{where}: {each.old.width}x{each.old.height} in the old, {each.new.width}x{each.new.height} in the new"
             continue
-        gone, come = sum(region.only_old for region in each.regions), sum(region.only_new for region in each.regions)
-        yield f"{where}: {counted(gone, 'dot')} only in the old, {come:,} only in the new, in {counted(len(each.regions), 'region')}"
-        for region in regions:
+        yield f"{where}: {counts_of(each)}"
+        for region in regions[:MOST_REGIONS]:
             yield from region.lines(RESOLUTIONS[each.old.width, each.old.height])
 
 
@@ -132,4 +173,4 @@ def json_of_sides(told):
         yield {"old": each.old and each.old.number, "new": each.new and each.new.number, "regions": len(each.regions),
                "sizes": [side and [side.width, side.height] for side in (each.old, each.new)],
                "only_old": sum(region.only_old for region in each.regions), "only_new": sum(region.only_new for region in each.regions),
-               "told": [region.as_json() for region in regions]}
+               "told": [region.as_json() for region in regions[:MOST_REGIONS]]}

@@ -2,16 +2,8 @@
 // The page: what was chosen, the line of time, the list and the pane of fields. The canvas is in paper.js.
 
 const LEAP = 100, PLAY_MOST = 40, NARROW = 420;
-const at = name => document.getElementById(name);
 const film = new Film(data);
 const state = {entry: -1, from: -1, side: -1, playing: 0, shown: [], here: -1, drawn: 0};
-
-function element(name, values, ...inside) {
-  const made = document.createElement(name);
-  for (const [key, value] of Object.entries(values || {})) made.setAttribute(key, value);
-  made.append(...inside);
-  return made;
-}
 
 // The list: a row is an element that stays for as long as it is seen, so that a click is no matter of how the mouse moves.
 

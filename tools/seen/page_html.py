@@ -10,8 +10,7 @@ from model import pages
 from . import fields, shown
 
 HERE = Path(__file__).parent
-TEMPLATE = HERE / "show.html"
-SCRIPTS = ("film.js", "dots.js", "list.js", "page.js", "paper.js")
+SCRIPTS = ("film.js", "dots.js", "list.js", "view.js", "page.js", "paper.js")
 
 
 def sizes():
@@ -20,13 +19,15 @@ def sizes():
             for number, size in ((number, pages.SIZES[name]) for number, name in fields.SIZES.items())}
 
 
-def scripts():
-    return "\n".join((HERE / name).read_text(encoding="utf-8").replace('"use strict";\n', "", 1) for name in SCRIPTS)
+def filled(template, names, title, data):
+    """A page of its template: with its title, the scripts of these files, and what they show."""
+    scripts = "\n".join(Path(name).read_text(encoding="utf-8").replace('"use strict";\n', "", 1) for name in names)
+    places = {"TITLE": html.escape(title), "DATA": json.dumps(data, separators=(",", ":")).replace("<", "\\u003c"),
+              "SCRIPTS": '"use strict";\n' + scripts, "COMMON": (HERE / "common.css").read_text(encoding="utf-8")}
+    return re.sub("TITLE|DATA|SCRIPTS|COMMON", lambda found: places[found[0]], template.read_text(encoding="utf-8"))
 
 
 def page(stream, front, chosen, name):
     """The text of the file."""
     data = {**shown.data_of(stream, front, chosen, name), "sizes": sizes()}
-    places = {"TITLE": html.escape(name), "DATA": json.dumps(data, separators=(",", ":")).replace("<", "\\u003c"),
-              "SCRIPTS": '"use strict";\n' + scripts()}
-    return re.sub("TITLE|DATA|SCRIPTS", lambda found: places[found[0]], TEMPLATE.read_text(encoding="utf-8"))
+    return filled(HERE / "show.html", [HERE / script for script in SCRIPTS], name, data)

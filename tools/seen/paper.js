@@ -1,13 +1,8 @@
 "use strict";
-// The page on its canvas: dots, tint, lines that lie over it, rulers, the loupe, and what made a dot.
+// The page of a film on its canvas: tint, lines that lie over it, the loupe, and what made a dot. Dots and sizes are in view.js.
 
-const view = at("view"), paper = at("paper"), ink = paper.getContext("2d");
-const picture = {bits: null, width: 0, height: 0, stride: 0, tint: null, entry: -1, side: -1, resolution: 300};
-const pointer = {x: null, y: null};    // on the screen, while it is on the page
-let zoom = 0, asked = 0;      // CSS pixels a dot; 0 is the whole page. A picture is drawn once a frame.
 let resting = 0;
-const REST = 120, LOUPE_DOTS = 26, RULER = 22, LEAST_GRID = 4, SMALLEST = 1 / 64, LARGEST = 32;
-const blocks = document.createElement("canvas");
+const REST = 120, LOUPE_DOTS = 26;
 
 async function showPage(token) {
   const {entry, from, side} = state;
@@ -47,28 +42,6 @@ function resolutionOf(width, height) {
   return Object.values(data.sizes).some(size => size.width === width && size.height === height) ? 300 : 600;
 }
 
-// Sizes
-
-function scale() {
-  return zoom || Math.min(view.clientWidth / picture.width, view.clientHeight / picture.height);
-}
-
-// About a place of the screen; without one about the pointer where it is on the page, else about the mark, which comes to the middle where it is not seen.
-function zoomTo(wanted, x = pointer.x, y = pointer.y) {
-  const before = scale(), box = view.getBoundingClientRect(), mark = x === null ? markDot() : null, middle = [box.width / 2, box.height / 2];
-  let [left, top] = x === null ? middle : [x - box.left, y - box.top], dotX = (view.scrollLeft + left) / before, dotY = (view.scrollTop + top) / before;
-  if (mark) {
-    [dotX, dotY] = mark;
-    [left, top] = [dotX * before - view.scrollLeft, dotY * before - view.scrollTop];
-    if (left < 0 || top < 0 || left > box.width || top > box.height) [left, top] = middle;
-  }
-  zoom = wanted && Math.max(SMALLEST, Math.min(LARGEST, wanted));
-  resizePaper();
-  view.scrollLeft = dotX * scale() - left;
-  view.scrollTop = dotY * scale() - top;
-  drawSoon();
-}
-
 // The middle of what the step changed, or the cursor behind it.
 function markDot() {
   const {tint} = picture;
@@ -94,40 +67,12 @@ function drawRing(line) {
   ink.stroke();
 }
 
-function zoomBy(times, x, y) {
-  zoomTo(2 ** Math.round(Math.log2(scale()) + Math.log2(times)), x, y);
-}
-
-function resizePaper() {
-  at("room").style.width = Math.max(1, Math.round(picture.width * scale())) + "px";
-  at("room").style.height = Math.max(1, Math.round(picture.height * scale())) + "px";
-  sized(paper, Math.min(view.clientWidth, Math.ceil(picture.width * scale())), Math.min(view.clientHeight, Math.ceil(picture.height * scale())));
-  sized(at("across"), view.clientWidth, RULER);
-  sized(at("down"), 40, view.clientHeight);
-  drawSoon();
-}
-
-function sized(canvas, width, height) {
-  canvas.style.width = width + "px";
-  canvas.style.height = height + "px";
-  canvas.width = Math.max(1, Math.round(width * devicePixelRatio));
-  canvas.height = Math.max(1, Math.round(height * devicePixelRatio));
-}
-
-function drawSoon() {
-  asked ||= requestAnimationFrame(() => { asked = 0; if (picture.bits) draw(); });
-}
-
-const color = name => getComputedStyle(document.documentElement).getPropertyValue(name).trim();
-
 function draw() {
   const by = scale() * devicePixelRatio, left = view.scrollLeft / scale(), top = view.scrollTop / scale();
   ink.setTransform(1, 0, 0, 1, 0, 0);
   ink.fillStyle = color("--paper");
   ink.fillRect(0, 0, paper.width, paper.height);
-  const seen = {left: Math.floor(left / 8) * 8, top: Math.floor(top / 8) * 8};
-  seen.wide = Math.min(picture.width - seen.left, paper.width / by + 16);
-  seen.high = Math.min(picture.height - seen.top, paper.height / by + 16);
+  const seen = seenDots(by, left, top);
   drawDots(picture.bits, seen, by, left, top, [16, 18, 22]);
   if (picture.tint && at("show-tint").checked) drawTint(seen, by, left, top);
   ink.setTransform(by, 0, 0, by, -left * by, -top * by);
@@ -135,23 +80,6 @@ function draw() {
   drawOverlays(by);
   drawRulers(left, top);
   paper.dataset.drawn = picture.entry + ":" + picture.side;
-}
-
-// Dots as blocks about as large as a pixel of the screen.
-function drawDots(bits, seen, by, left, top, [red, green, blue]) {
-  const side = by >= .75 ? 1 : by >= .375 ? 2 : by >= .19 ? 4 : 8, {made, across, down} = shades(bits, picture.stride, seen.left, seen.top, Math.ceil(seen.wide), Math.ceil(seen.high), side);
-  if (!across || !down) return;
-  const image = new ImageData(across, down), words = image.data;
-  for (let place = 0; place < made.length; place++) {
-    if (!made[place]) continue;
-    words[4 * place] = red; words[4 * place + 1] = green; words[4 * place + 2] = blue; words[4 * place + 3] = made[place];
-  }
-  blocks.width = across;
-  blocks.height = down;
-  blocks.getContext("2d").putImageData(image, 0, 0);
-  ink.imageSmoothingEnabled = side * by < 1;
-  ink.setTransform(1, 0, 0, 1, 0, 0);
-  ink.drawImage(blocks, (seen.left - left) * by, (seen.top - top) * by, across * side * by, down * side * by);
 }
 
 // Dots that the step changed: blue ones became black, or white where no dot is below them.
@@ -162,15 +90,6 @@ function drawTint(seen, by, left, top) {
   ink.lineWidth = 1.5 / by * devicePixelRatio;
   const {tint} = picture;
   ink.strokeRect(tint.left * 8, tint.top, (tint.right - tint.left + 1) * 8, tint.bottom - tint.top + 1);
-}
-
-function drawGrid(seen, by) {
-  ink.strokeStyle = "#8886";
-  ink.lineWidth = 1 / by;
-  ink.beginPath();
-  for (let x = seen.left; x <= seen.left + seen.wide; x++) { ink.moveTo(x, seen.top); ink.lineTo(x, seen.top + seen.high); }
-  for (let y = seen.top; y <= seen.top + seen.high; y++) { ink.moveTo(seen.left, y); ink.lineTo(seen.left + seen.wide, y); }
-  ink.stroke();
 }
 
 function drawOverlays(by) {
@@ -201,40 +120,6 @@ function drawRulers(left, top) {
   const unit = {dots: 1, units: picture.resolution * picture.fields.settings.unit / 7200, inches: picture.resolution}[at("unit").value];
   ruler(at("across"), left, view.clientWidth, unit, true);
   ruler(at("down"), top, view.clientHeight, unit, false);
-}
-
-function ruler(canvas, from, long, unit, across) {
-  const pen = canvas.getContext("2d"), by = scale();
-  pen.setTransform(devicePixelRatio, 0, 0, devicePixelRatio, 0, 0);
-  pen.clearRect(0, 0, canvas.width, canvas.height);
-  pen.fillStyle = pen.strokeStyle = color("--soft");
-  pen.font = "10px system-ui, sans-serif";
-  pen.beginPath();
-  for (const {place, label} of ticks(from, from + long / by, by, unit)) {
-    const to = (place - from) * by;
-    if (across) { pen.moveTo(to, 14); pen.lineTo(to, RULER); pen.fillText(label, to + 2, 12); } else { pen.moveTo(32, to); pen.lineTo(40, to); pen.fillText(label, 2, to + 10); }
-  }
-  pen.stroke();
-}
-
-// What is under the pointer
-
-function dotUnder(event) {
-  const box = paper.getBoundingClientRect(), x = Math.floor((event.clientX - box.left + view.scrollLeft) / scale()), y = Math.floor((event.clientY - box.top + view.scrollTop) / scale());
-  return x >= 0 && y >= 0 && x < picture.width && y < picture.height ? {x, y} : null;
-}
-
-// A black dot near the pointer, that under it first; dots that are smaller than a pixel are hard to hit.
-function blackNear({x, y}) {
-  const reach = Math.min(24, Math.ceil(1.5 / scale()));
-  let best = null, least = Infinity;
-  for (let line = Math.max(0, y - reach); line <= Math.min(picture.height - 1, y + reach); line++) {
-    for (let dot = Math.max(0, x - reach); dot <= Math.min(picture.width - 1, x + reach); dot++) {
-      const far = (dot - x) ** 2 + (line - y) ** 2;
-      if (far < least && dotAt(picture.bits, picture.stride, dot, line)) { best = {x: dot, y: line}; least = far; }
-    }
-  }
-  return best;
 }
 
 // The entry that made a dot, or -1.
@@ -285,37 +170,6 @@ function drawLoupe(dot) {
   pen.strokeRect((LOUPE_DOTS >> 1) * by, (LOUPE_DOTS >> 1) * by, by, by);
 }
 
-// A drag moves the page; what is let go where it was pressed is a click. A finger moves it as any page.
-let down = null;
-view.addEventListener("pointerdown", event => {
-  if (event.button === 0 && event.pointerType !== "touch") down = {x: event.clientX, y: event.clientY, left: view.scrollLeft, top: view.scrollTop, moves: false};
-});
-view.addEventListener("pointerup", event => {
-  if (down ? !down.moves : event.pointerType === "touch") clickAt(event);
-  down = null;
-  view.classList.remove("moves");
-});
-view.addEventListener("pointercancel", () => { down = null; view.classList.remove("moves"); });
-view.addEventListener("pointermove", event => {
-  Object.assign(pointer, {x: event.clientX, y: event.clientY});
-  if (down && (down.moves ||= Math.hypot(event.clientX - down.x, event.clientY - down.y) >= 5)) {
-    if (!view.classList.contains("moves")) { view.setPointerCapture(event.pointerId); view.classList.add("moves"); }
-    view.scrollLeft = down.left - event.clientX + down.x;
-    view.scrollTop = down.top - event.clientY + down.y;
-    return;
-  }
-  pointAt(event);
-});
-view.addEventListener("pointerleave", () => { pointer.x = pointer.y = null; });
-view.addEventListener("scroll", drawSoon);
-view.addEventListener("wheel", event => {
-  if (!event.ctrlKey) return;
-  event.preventDefault();
-  zoomBy(event.deltaY < 0 ? 2 : .5, event.clientX, event.clientY);
-}, {passive: false});
 for (const name of ["grid", "cursor", "margins", "logical", "clip", "tint", "loupe"]) {
   at("show-" + name).addEventListener("change", () => { at("loupe").hidden = !at("show-loupe").checked; drawSoon(); });
 }
-at("unit").addEventListener("change", drawSoon);
-new ResizeObserver(resizePaper).observe(view);
-matchMedia("(prefers-color-scheme: dark)").addEventListener("change", drawSoon);

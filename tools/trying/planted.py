@@ -53,6 +53,7 @@ PAIRS = [
     Pair("a shift by two ways", RASTER, ((b"*p600X", b"*p590X"), (b"*p600Y", b"*p603Y")), ("shifted by 10 dots left and 3 dots down", "*p590X", "*p603Y"), ("side 1",)),
     Pair("a shift by the top margin", RASTER, ((b"esc E\n", b"esc E\npar &l5E\n"),), ("shifted by 100 dots down", "set by no command in the old, and by byte 2: par &l5E in the new\n"), ("side 1",)),
     Pair("a shift of one page of three", PAGES, ((b"*p500X", b"*p503X"),), ("side 2 (sheet 2 front)", "shifted by"), ("side 2",)),
+    Pair("two pages of three", PAGES, ((b"*p100X", b"*p101X"), (b"*p900X", b"*p907X")), ("side 1 (sheet 1 front)", "shifted by 7 dots right"), ("1, 3",)),
     Pair("a shift in a macro", MACRO, ((b"*p+600X", b"*p+601X"),), ("shifted by 1 dot right", "in macro 3", "par *p+601X"), ("side 1",)),
     Pair("a copy less", COPIES, ((b"&l3X", b"&l2X"),), ("print 3 and 2 sides\n", "is gone: a copy of sheet"), ("3 sides", "2")),
     Pair("a copy more", COPIES, ((b"&l3X", b"&l4X"),), ("print 3 and 4 sides\n", ": a copy of sheet"), ("3 sides", "4")),
