@@ -66,7 +66,7 @@ class Following:
             self.late.add(place)
 
     def go_on(self, each):
-        key = letters(each.placed.command) if each.how == "row" else ""
+        key = each.key
         if key == "*bW" and self.sought is self.begun is self.put_on is None and not self.asking and self.white is False and not each.closes \
                 and self.moving.page == each.page:
             return

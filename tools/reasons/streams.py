@@ -67,7 +67,7 @@ class Seen:
             page = self.pages.setdefault(number, OnPage())
         page.rows += sent.rows
         page.lost += sent.right + sent.below
-        if happening.marks and happening.marks[0].page == number:
+        if happening.marks_its_page():
             page.marking = happening
         if met is not None:
             self.judge.note(happening, met[0])

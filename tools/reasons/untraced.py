@@ -15,7 +15,7 @@ from model.engine import is_reset
 from model.values import POSITIONS_PER_INCH
 from seen import names, remarks
 from seen.placing import row_of
-from seen.sent import NOTHING, letters
+from seen.sent import NOTHING, WHOLE_ROW, letters
 
 from . import following, groups, job_lines, named_values
 from .finding import counted
@@ -503,10 +503,13 @@ LATE = [BY_NAME[name] for name in following.LATE]    # those that what follows d
 def is_plain(happening):
     """A row that comes out whole meets none of them, and no place to which the cursor goes; it is asked first, since a driver sends many of these."""
     sent = happening.sent
-    return happening.how == "row" and happening.row in PLAIN and bool(happening.changes) and not (sent.right or sent.below or sent.late or sent.again)
+    if happening.how != "row" or happening.row not in PLAIN or not (sent is WHOLE_ROW or sent is NOTHING) and (sent.right or sent.below or sent.late or sent.again):
+        return False
+    return happening.is_changing() or happening.row in PLAIN_VALUES and number(happening) in PLAIN_VALUES[happening.row]
 
 
-PLAIN = ("*bW", "*pX", "*pY")
+PLAIN = ("*bW", "*pX", "*pY", "*bM")
+PLAIN_VALUES = {"*bM": (0, 1, 2, 3, 5)}    # that change nothing where they say it again
 
 
 class Judge:

@@ -7,7 +7,7 @@ from model.commands import Broken, Foreign, Text, command_bytes
 
 from reasons.untraced import Judge
 
-from . import remarks
+from . import happenings, remarks
 
 
 class Row(NamedTuple):
@@ -26,6 +26,8 @@ class Row(NamedTuple):
 
 def run_of(happening, because):
     """What tells the happenings apart that stand in different runs; None where it stands alone."""
+    if happening.how == "row":
+        return None
     if happening.how == "HP-GL/2":
         return "HP-GL/2"
     if isinstance(happening.placed.command, (Text, Foreign)) and happening.how in ("no row", "recorded"):
@@ -60,7 +62,7 @@ def rows(run, judge=None, see=None):
 
 def row_of(run, some, because, met):
     first, last = some[0], some[-1].placed
-    if len(some) > 1 or first.placed.count() > 1:
+    if len(some) > 1 or type(first) is not happenings.Row and first.placed.count() > 1:
         data = b"".join(bytes_of(happening.placed, run.stream) for happening in some)
         text, told = line_of_command(Broken(data)), remarks.of_run(some, data, because)
     else:

@@ -52,6 +52,10 @@ class Now:
     def own(self):
         return {"x": self.x, "y": self.y, "total": self.total, "row_count": self.row_count}
 
+    def is_other(self, after):
+        """Whether one that stands behind it, by the same base, is another."""
+        return self.y != after.y or self.x != after.x or self.row_count != after.row_count or self.total != after.total
+
 
 class Fields:
     """All fields, line by line. `now` is replaced, and never written into."""
@@ -60,11 +64,19 @@ class Fields:
         self.view = {}
         self.now = Now({}, 0, 0, 0, 0)
         self.places = {}    # numbers that came before, so that each is kept once
+        self.is_late = False   # whether the view has another number of rows than there are now
+
+    def whole_view(self):
+        """The objects of the view, with all that was told."""
+        if self.is_late:
+            self.view["raster"], self.is_late = {**self.view["raster"], "rows": self.now.row_count}, False
+        return self.view
 
     def go_on(self, line):
         """The fields behind this line."""
         base, row_count, view = self.now.base, self.now.row_count, line.get("view")
         if view:
+            self.whole_view()
             for name, told in view.items():
                 self.view[name] = {**self.view.get(name, {}), **told}
             row_count = self.view["raster"]["rows"] or 0
@@ -76,11 +88,10 @@ class Fields:
 
     def go_on_row(self, x, y, sheets, count):
         """The fields behind a row within raster graphics, which changes the cursor and the number of rows alone."""
+        before = self.now
         if count is not None:
-            count = int(count)
-            self.view["raster"] = {**self.view["raster"], "rows": count}
-        kept = self.places
-        self.now = Now(self.now.base, kept.setdefault(x, x), kept.setdefault(y, y), sheets, self.now.row_count if count is None else count)
+            self.is_late = True
+        self.now = Now(before.base, x, y, sheets, before.row_count if count is None else count)
         return self.now
 
 
@@ -109,15 +120,9 @@ OTHERS = {
 def changes(before, after):
     """Name, value before and value after of each field that is another."""
     if before.base is not after.base:
-        return tuple((name, before[name], after[name]) for name in ORDER if before[name] != after[name])
-    return tuple((name, getattr(before, name), getattr(after, name)) for name in OWN if getattr(before, name) != getattr(after, name))
-
-
-def changes_of_row(before, after):
-    """The same behind a row within raster graphics."""
-    if before.x == after.x and before.total == after.total and before.y != after.y and before.row_count != after.row_count:
-        return ("y", before.y, after.y), ("row_count", before.row_count, after.row_count)
-    return changes(before, after)
+        old, new = before.base | before.own(), after.base | after.own()
+        return tuple([(name, old[name], new[name]) for name in ORDER if old[name] != new[name]])
+    return tuple([(name, getattr(before, name), getattr(after, name)) for name in OWN if getattr(before, name) != getattr(after, name)])
 
 
 class State:

@@ -9,13 +9,13 @@ import re
 from typing import NamedTuple, Optional
 
 from model import commands, pages
-from model.values import dot
+from model.values import dot_positions
 
 from . import program, sent, traced
 from .bodies import Follower, Placed
-from .fields import Fields, changes, changes_of_row, power_on
+from .fields import Fields, changes, power_on
 from .leaves import Leaves
-from .patches import Open
+from .patches import Open, Page, Patch
 from .placing import PARAM, Placer, row_of
 
 LINE = rb'\{"at":(\d+),"bytes":%s,"depth":0,"last":"%s",%s"sheets":(\d+),"step":(\d+),%s"x":(-?\d+),"y":(-?\d+)\}\n'
@@ -37,9 +37,8 @@ class Mark:
     def box(self):
         """Left, top, right and bottom, and how many dots are others than before, one as often as a step changed it."""
         if self.found is None:
-            self.found = box_of(*self.patches[0])
-            for each in self.patches[1:]:
-                left, top, right, bottom, dots = box_of(*each)
+            self.found, *others = [box_of(*each.whole()) for each in self.patches]
+            for left, top, right, bottom, dots in others:
                 box = self.found
                 self.found = min(box[0], left), min(box[1], top), max(box[2], right), max(box[3], bottom), box[4] + dots
             self.patches = None
@@ -56,12 +55,15 @@ class Mark:
 
 def box_of(left, top, rows, old):
     """The box of what a patch changes, which begins at a byte and a line, with its rows and the whole ones that were there; and how many dots."""
+    end = 8 * (left + len(rows[0]))
+    if len(rows) == 1:
+        dots = int.from_bytes(old[0][left:left + len(rows[0])], "big") ^ int.from_bytes(rows[0], "big")
+        return end - dots.bit_length(), top, end - (dots & -dots).bit_length(), top, dots.bit_count()
     changed = [int.from_bytes(before[left:left + len(row)], "big") ^ int.from_bytes(row, "big") for row, before in zip(rows, old)]
     dots, lines = 0, [line for line, some in enumerate(changed, top) if some]
     for some in changed:
         dots |= some
-    end = 8 * (left + len(rows[0]))
-    return (end - dots.bit_length(), lines[0], end - (dots & -dots).bit_length(), lines[-1], sum(some.bit_count() for some in changed))
+    return end - dots.bit_length(), lines[0], end - (dots & -dots).bit_length(), lines[-1], sum(some.bit_count() for some in changed)
 
 
 class Happening(NamedTuple):
@@ -82,6 +84,61 @@ class Happening(NamedTuple):
     sent: sent.Sent          # by it and the bodies that it runs, and what of that falls beside the page
     fills: bool              # whether the pattern of a fill is there
 
+    @property
+    def key(self):
+        """Character, group and end of a parameterized command that has a row; else empty."""
+        return sent.letters(self.placed.command) if self.how == "row" else ""
+
+    def is_changing(self):
+        return bool(self.changes)
+
+    def marks_its_page(self):
+        return bool(self.marks) and self.marks[0].page == self.page
+
+
+class Row:
+    """A happening that is a row within raster graphics. Drivers send hundreds of thousands, so what takes time is made when it is asked for."""
+
+    __slots__ = "offset", "length", "field", "data", "before", "now", "page", "sent", "patch", "marked", "read"
+    row, how, key, recorded_in, closes, sheets, replies, bodies, depth, fills = "*bW", "row", "*bW", None, 0, (), b"", 0, 0, True
+
+    def __init__(self, offset, length, field, data, before, now, page, gone, patch):
+        self.offset, self.length, self.field, self.data = offset, length, field, data
+        self.before, self.now, self.page, self.sent, self.patch, self.marked, self.read = before, now, page, gone, patch, None, None
+
+    @property
+    def placed(self):
+        if self.read is None:
+            self.read = Placed(self.offset, self.length, commands.Param(*OTHER_KIND[:2], self.field, OTHER_KIND[2], self.data))
+        return self.read
+
+    @property
+    def changes(self):
+        return changes(self.before, self.now)
+
+    @property
+    def marks(self):
+        if self.marked is None:
+            self.marked = () if self.patch is None else (Mark(self.page, [self.patch]),)
+        return self.marked
+
+    @property
+    def resolution(self):
+        return self.now.base["resolution"]
+
+    def is_changing(self):
+        return self.before.is_other(self.now)
+
+    def marks_its_page(self):
+        return self.patch is not None
+
+
+def of_step(line, step, page, patch=None):
+    """A step by itself, without what the bodies do that it runs."""
+    row = row_of(step.placed.command)
+    return Happening(step.placed, row and row.name, step.how, step.recorded_in, changes(step.before, step.after), (Mark(page, [patch]),) if patch else (),
+                     0, (), b"", 0, page, line["depth"], step.after["resolution"], step.before, sent.NOTHING, True)
+
 
 def takes_data(command):
     return isinstance(command, commands.Param) and bool(command.data) and row_of(command) is None
@@ -96,14 +153,18 @@ class Marks(Open):
 
     def mark(self, line, number):
         """Goes on by a line; `number` is that of the page that is open before the step."""
-        if old := self.go_on(line):
-            patch = line["page"]
-            self.note(number, patch["x"] // 8, patch["y"], [bytes.fromhex(row) for row in patch["rows"]], old)
+        if line.get("page"):
+            patch = self.patch_of(line)
+            self.marks.setdefault(number, Mark(number, [])).patches.append(patch)
+        self.go_on(line)
 
-    def note(self, number, *patch):
-        if number not in self.marks:
-            self.marks[number] = Mark(number, [])
-        self.marks[number].patches.append(patch)
+    def patch_of(self, line):
+        """What a line lays over the page, before that goes on by it."""
+        told = line["page"]
+        page = Page(*line["opened"]) if "opened" in line else self.page
+        patch = Patch(page, told["x"] // 8, told["y"], told["rows"])
+        patch.old = page.rows[patch.top:patch.top + len(patch.spelled)]
+        return patch
 
     def taken(self):
         if not self.marks:
@@ -123,7 +184,7 @@ class Run:
         self.whole = front + stream
         self.chosen = chosen
         self.who = traced.who(chosen)
-        self.texts, self.text = iter(traced.texts(self.whole, chosen)), None
+        self.texts, self.text = traced.texts(self.whole, chosen), None
         self.fields = Fields()
         self.follower = Follower(self.fields.go_on(power_on(chosen)), row_of)
         self.leaves, self.marks, self.watcher = Leaves(), Marks(), sent.Watcher()
@@ -159,6 +220,10 @@ class Run:
             pass
         return self
 
+    def stop(self):
+        """Ends the program, where nobody asks for what follows."""
+        self.texts.close()
+
     def next_text(self):
         """The next line, as it stands."""
         text, self.text = self.text or next(self.texts, None), None
@@ -193,21 +258,19 @@ class Run:
         if base.get("defining", 0) is not None or base["hpgl"] or not base["raster_on"]:
             return None
         at, size, rows, left, top, sheets, step, count, x, y = found.groups()
-        place, number, patch = int(at), self.leaves.closed, None
-        data = self.whole[place:place + int(size)]
-        field = PARAM.match(data)
-        command = commands.Param(*OTHER_KIND[:2], field[1], OTHER_KIND[2], data[field.end():])
-        self.placer.before = "par *bW", data
-        marks = ()
+        place, size, patch = int(at), int(size), None
+        spelled = self.whole[place:place + size]
+        field = PARAM.match(spelled)
+        data = spelled[field.end():]
+        self.placer.before = "par *bW", spelled
         if rows is not None:
-            left, top, patch = int(left) // 8, int(top), [bytes.fromhex(row) for row in rows.decode().split('","')]
-            marks = (Mark(number, [(left, top, patch, self.marks.page.lay_rows(left, top, patch))]),)
-        gone = self.watcher.of_rows(before, command.data, bool(marks))
-        now = self.follower.fields = self.fields.go_on_row(int(x), int(y), int(sheets), count)
+            patch = self.marks.page.lay_later(int(left) // 8, int(top), rows.decode().split('","'))
+        gone = self.watcher.of_rows(before, data, rows is not None)
+        now = self.follower.fields = self.fields.go_on_row(int(x), int(y), int(sheets), count and int(count))
+        row = Row(place - self.placer.shift, size, field[1], data, before, now, self.leaves.closed, gone, patch)
         if self.watch_row:
-            self.watch_row(self, int(step), now, count, patch and (left, top, patch))
-        return Happening._make((Placed._make((place - self.placer.shift, int(size), command)), "*bW", "row", None, changes_of_row(before, now), marks, 0, (),
-                                b"", 0, number, 0, base["resolution"], before, gone, True))
+            self.watch_row(self, int(step), row, count is not None)
+        return row
 
     def carry_out(self, line, placed):
         """Goes on by a command of the stream, and by the bodies that it starts."""
@@ -265,10 +328,16 @@ def size_at(name, resolution):
     return pages.SIZES[name].at(resolution)
 
 
-@functools.lru_cache(maxsize=4)     # it is asked for again at once
 def cursor_dot(now):
     """The physical dot of the cursor."""
-    base, resolution = now.base, now.base["resolution"]
-    size, orientation = size_at(base["size"], resolution), base["orientation"]
-    column = pages.offset(size, orientation) + dot(now.x, resolution)
-    return pages.to_physical(size, orientation, column, dot(now.y + base["top_margin"], resolution))
+    base = now.base
+    offset, positions, size = frame_at(base["size"], base["resolution"], base["orientation"])
+    column, line = offset + now.x // positions, (now.y + base["top_margin"]) // positions
+    return pages.to_physical(size, base["orientation"], column, line)
+
+
+@functools.lru_cache(maxsize=64)
+def frame_at(name, resolution, orientation):
+    """How many dots the logical page begins to the right, how many positions a dot has, and the size of the page."""
+    size = size_at(name, resolution)
+    return pages.offset(size, orientation), dot_positions(resolution), size

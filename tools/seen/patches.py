@@ -5,13 +5,56 @@ import json
 from .printable import printable
 
 
+MOST_WAITING = 4096    # patches of a page that wait to be laid over it
+
+
+class Patch:
+    """Rows that are laid over a page, from a byte and a line on; those that they replaced are known once they are laid."""
+
+    __slots__ = "page", "left", "top", "spelled", "made", "old"
+
+    def __init__(self, page, left, top, spelled):
+        self.page, self.left, self.top, self.spelled, self.made, self.old = page, left, top, spelled, None, None
+
+    def rows(self):
+        if self.made is None:
+            self.made = [bytes.fromhex(row) for row in self.spelled]
+        return self.made
+
+    def whole(self):
+        """Its byte and line, its rows, and those that they replaced."""
+        if self.old is None:
+            self.page.lay_waiting()
+        return self.left, self.top, self.rows(), self.old
+
+
 class Page:
-    """The dots of a page: a row is bytes, the most significant bit left, 1 black. Rows are replaced, and never written into."""
+    """The dots of a page: a row is bytes, the most significant bit left, 1 black. Rows are replaced, and never written into. Patches may wait until
+    somebody asks for the rows."""
 
     def __init__(self, width, height):
         self.width = width
         self.height = height
-        self.rows = [bytes(-(-width // 8))] * height
+        self.laid, self.waiting = [bytes(-(-width // 8))] * height, []
+
+    @property
+    def rows(self):
+        if self.waiting:
+            self.lay_waiting()
+        return self.laid
+
+    def lay_waiting(self):
+        waiting, self.waiting = self.waiting, []
+        for patch in waiting:
+            patch.old = self.lay_rows(patch.left, patch.top, patch.rows())
+
+    def lay_later(self, left, top, spelled):
+        """A patch that is laid when the rows are asked for."""
+        patch = Patch(self, left, top, spelled)
+        self.waiting.append(patch)
+        if len(self.waiting) > MOST_WAITING:
+            self.lay_waiting()
+        return patch
 
     def lay(self, patch):
         """Lays a patch over the page, and gives the rows that it replaced."""
@@ -19,16 +62,16 @@ class Page:
 
     def lay_rows(self, left, top, rows):
         """The same of rows that begin at a byte and a line."""
-        old = []
+        old, laid = [], self.rows
         for number, new in enumerate(rows, top):
-            row = self.rows[number]
+            row = laid[number]
             old.append(row)
-            self.rows[number] = row[:left] + new + row[left + len(new):]
+            laid[number] = row[:left] + new + row[left + len(new):]
         return old
 
     def copy(self):
         other = Page(self.width, 0)
-        other.height, other.rows = self.height, list(self.rows)
+        other.height, other.laid = self.height, list(self.rows)
         return other
 
 

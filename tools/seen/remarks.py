@@ -10,6 +10,7 @@ from model.values import POSITIONS_PER_INCH
 
 from . import names
 from .fields import NAMES, SIZES
+from .happenings import Row
 
 LINE_END = b"\r\n"
 COMMANDS = {Escape: "escape", Param: "parameter", Control: "control", Text: "text", Broken: "broken", Uel: "universal exit",
@@ -171,14 +172,22 @@ def change(name, before, after, resolution):
 def unit_of(name, before, after, resolution):
     """The unit of a field's number; of a place how many dots it went, of a length how many dots it has."""
     if name in POSITIONS:
-        dots = (after - before if name in PLACES else after) * resolution / POSITIONS_PER_INCH
-        return f" (1/7200 inch, {dots:g} {'dot' if abs(dots) == 1 else 'dots'})"
+        return unit_of_positions(after - before if name in PLACES else after, resolution)
     return f" ({UNITS[name]})" if name in UNITS and after is not None else ""
+
+
+@functools.lru_cache(maxsize=4096)
+def unit_of_positions(count, resolution):
+    dots = count * resolution / POSITIONS_PER_INCH
+    return f" (1/7200 inch, {dots:g} {'dot' if abs(dots) == 1 else 'dots'})"
 
 
 def changes_of(happening):
     """The changes of the fields, the least surprising ones left out where a reset brings many."""
-    told = [change(*each, happening.resolution) for each in happening.changes if each[0] not in SILENT]
+    told, resolution = [], happening.resolution
+    for name, before, after in happening.changes:
+        if name not in SILENT:
+            told.append(change(name, before, after, resolution))
     for name, before, after in happening.changes:
         if name in ("pjl_current", "pjl_default"):
             told.append(("PJL default " if name == "pjl_default" else "PJL ") + variables(before, after))
@@ -260,7 +269,26 @@ class Remark(NamedTuple):
         return f"at {self.place}{', ' + self.spelled if self.spelled else ''}: {self.what}: {self.effect}"
 
 
+ROW_NAME, ROW_KIND = names.PARAMS["*bW"].name, "par *bW"
+
+
+def remark_of_row(row):
+    """The remark on a row within raster graphics of which nothing is to be said but what it does."""
+    told, before, now = [], row.before, row.now
+    if row.patch is not None:
+        told.append("marks %d by %d dots" % row.marks[0].size())
+    if before.x != now.x:
+        told.append(change("x", before.x, now.x, row.resolution))
+    if before.y != now.y:
+        told.append(f"y {before.y} to {now.y}{unit_of_positions(now.y - before.y, row.resolution)}")
+    if before.row_count != now.row_count:
+        told.append(f"raster rows {before.row_count} to {now.row_count}")
+    return Remark(str(row.offset), f"ESC*b{row.field.decode()}W", ROW_NAME + value_without_data(*row.placed.command[:4]), "; ".join(told) or "changes nothing")
+
+
 def remark(happening, pattern_id=0, because=""):
+    if type(happening) is Row and not because:
+        return remark_of_row(happening)
     command = happening.placed.command
     return Remark(str(happening.placed.offset), spelled(command), name_of(command) + value_of(command), effect_of(happening, pattern_id, because))
 
@@ -289,8 +317,9 @@ class Tally:
         self.kinds = {}
 
     def add(self, happening):
-        some = self.kinds.setdefault(kind_of(happening.placed.command), [0, 0])
-        some[0] += happening.placed.count()
+        kind, count = (ROW_KIND, 1) if type(happening) is Row else (kind_of(happening.placed.command), happening.placed.count())
+        some = self.kinds.setdefault(kind, [0, 0])
+        some[0] += count
         some[1] += happening.row is not None
 
     def count(self):

@@ -67,12 +67,12 @@ class Seed:
         else:
             self.waiting, self.reach, self.replaced = [(method, data)], reach, 0
 
-    def fits(self, place):
+    def fits(self, room):
         """Whether no dot is lost of as many bytes as it may reach; of a row by itself these are counted where it could be too many."""
-        if place.holds(max(self.reach, self.replaced)):
+        if self.reach <= room and self.replaced <= room:
             return True
         self.decoded()
-        return place.holds(max(self.reach, self.replaced))
+        return self.reach <= room and self.replaced <= room
 
     def is_white(self):
         return not self.reach and not self.replaced
@@ -101,18 +101,24 @@ def by_itself(method, data):
 
 def reach_of(data):
     """How many bytes from the left a delta row replaces at most."""
-    place, reach, size = 0, 0, len(data)
-    while place < size:
-        code = data[place]
-        behind, place = code & 31, place + 1
-        if behind == 31:
-            while place < size and data[place] == 255:
-                behind, place = behind + 255, place + 1
-            behind += data[place] if place < size else 0
-            place += 1
-        code = (code >> 5) + 1
-        reach, place = reach + behind + code, place + code
-    return reach
+    place = reach = 0
+    try:
+        while True:
+            code = data[place]
+            reach += BEHIND[code]
+            place += TAKEN[code]
+            if code & 31 == 31:
+                place, code = place - TAKEN[code] + 1, TAKEN[code] - 1
+                while data[place] == 255:
+                    reach, place = reach + 255, place + 1
+                reach, place = reach + data[place], place + 1 + code
+    except IndexError:
+        return reach
+
+
+# Of a byte of a delta row that begins a replacement: how far to the right it reaches behind the one before, and how many bytes it takes with its own.
+BEHIND = [(code & 31) + (code >> 5) + 1 for code in range(256)]
+TAKEN = [(code >> 5) + 2 for code in range(256)]
 
 
 def reach_of_packed(data):
@@ -138,7 +144,7 @@ class Watcher:
 
     def __init__(self):
         self.seed = Seed()
-        self.strip = None
+        self.strip, self.strips = None, {}
 
     def of(self, now, command, marks):
         """What a command that is carried out sends; the fields are those before it, and `marks` says whether the page is changed."""
@@ -152,32 +158,44 @@ class Watcher:
         return NOTHING
 
     def of_rows(self, now, data, marks):
-        base = now.base
-        if now.row_count == 0 or not base["raster_on"]:
+        base, y, count = now.base, now.y, now.row_count
+        if count == 0 or not base["raster_on"]:
             self.seed.clear()
-        if self.strip is None or self.strip.base is not base:
-            self.strip = Strip(now)
-        place = Place(self.strip, now)
+        strip = self.strip
+        if strip is None or strip.base is not base:
+            strip = self.strip = self.strip_of(now)
         if base["method"] != rows.ADAPTIVE:
-            return self.of_row(place, base["method"], data, marks)
+            return self.of_row(strip, y, count, base["method"], data, marks)
         sent = NOTHING
         for method, each in rows_of(data):
             if method is None:
                 self.seed.clear()
             else:
-                sent = sent.plus(self.of_row(place, method, each, marks))
+                sent = sent.plus(self.of_row(strip, y, count, method, each, marks))
+                y, count = min(strip.lowest, y + strip.step), count + 1
         return sent
 
-    def of_row(self, place, method, data, marks):
-        """What the next row sends; of one that marks the page, and loses none, its dots are not counted."""
-        if place.is_late():
+    def strip_of(self, now):
+        """Most fields that change leave it as it is, as the method does."""
+        base = now.base
+        key = tuple([base[name] for name in STRIP])
+        if key not in self.strips:
+            self.strips[key] = Strip(now)
+        strip = self.strips[key]
+        strip.base = base
+        return strip
+
+    def of_row(self, strip, y, count, method, data, marks):
+        """What a row sends that goes to this place; of one that marks the page, and loses none, its dots are not counted."""
+        if strip.height is not None and count >= strip.height:
             return LATE_ROW
         seed = self.seed
         seed.follow(method, data)
         again = seed.count_black() if not data and method == rows.DELTA_ROW else 0
-        whole = seed.is_white() or marks and seed.fits(place)
-        sent = WHOLE_ROW if whole else place.sent(seed.decoded())
-        place.go_on()
+        if seed.is_white() or marks and not strip.is_below(y) and seed.fits(strip.bytes):
+            sent = WHOLE_ROW
+        else:
+            sent = strip.sent(y, seed.decoded())
         return sent._replace(again=again) if again else sent
 
 
@@ -187,6 +205,10 @@ def rows_of(data):
         if block.rows == 0:
             yield None, b""
         yield from [(block.method, block.data)] * block.rows
+
+
+# The fields that say where rows go.
+STRIP = ("size", "orientation", "resolution", "raster_resolution", "raster_left", "source_width", "source_height", "top_margin")
 
 
 class Strip:
@@ -200,35 +222,16 @@ class Strip:
         self.lowest = state.logical_length() - state.top_margin
         wide, column = state.resolution // state.raster_resolution, marks.column_of(state, state.raster_left)
         self.room = min(marks.row_width(state), max(0, marks.ceiling(frame_width - column, wide)))
+        self.bytes = self.room // 8     # of so many no dot is lost
 
+    def is_below(self, y):
+        return (y + self.top) // self.dot >= self.frame_height
 
-class Place:
-    """Where the next row of a transfer goes."""
-
-    __slots__ = "strip", "y", "count"
-
-    def __init__(self, strip, now):
-        self.strip, self.y, self.count = strip, now.y, now.row_count
-
-    def is_late(self):
-        return self.strip.height is not None and self.count >= self.strip.height
-
-    def is_below(self):
-        return (self.y + self.strip.top) // self.strip.dot >= self.strip.frame_height
-
-    def holds(self, reach):
-        """Whether no dot of so many bytes is lost."""
-        return 8 * reach <= self.strip.room and not self.is_below()
-
-    def sent(self, row):
+    def sent(self, y, row):
         number = int.from_bytes(row, "big")
-        black, inside = number.bit_count(), (number >> max(0, 8 * len(row) - self.strip.room)).bit_count()
-        below = inside if self.is_below() else 0
+        black, inside = number.bit_count(), (number >> max(0, 8 * len(row) - self.room)).bit_count()
+        below = inside if self.is_below(y) else 0
         return Sent(1, black, black - inside, below, 0)
-
-    def go_on(self):
-        self.y = min(self.strip.lowest, self.y + self.strip.step)
-        self.count += 1
 
 
 def of_fill(state, which):

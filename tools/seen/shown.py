@@ -84,6 +84,7 @@ class Recorder:
 
     def __init__(self):
         self.columns = {name: array.array("i") for name in ("step", "x", "y", "across", "down", "own", "stack", "page", "sheets")}
+        self.entries = []     # those that are not in the columns yet
         self.flags, self.pages, self.replies, self.fields, self.part = bytearray(), [], [], [], []
         self.stacks = {}
         self.film_of = {}     # the page of the film, by its number among those that closed
@@ -99,19 +100,24 @@ class Recorder:
             self.replies.append([entry, remarks.readable(line["reply"].encode("latin-1"), 400)])
         self.keep_fields(run, line.get("view", 0))
 
-    def row(self, run, step, now, count, patch):
+    def row(self, run, step, row, is_counted):
         """The same of a row within raster graphics."""
-        if patch:
-            self.open.add(len(self.flags), *patch)
-        self.keep_columns(step, now, NONE, self.stacks.setdefault((), len(self.stacks)))
+        if row.patch:
+            self.open.add(len(self.flags), row.patch.left, row.patch.top, row.patch.rows())
+        self.keep_columns(step, row.now, NONE, self.stacks.setdefault((), len(self.stacks)))
         self.flags.append(0)
-        self.keep_fields(run, 0 if count is None else {"raster": {"rows": int(count)}})
+        self.keep_fields(run, {"raster": {"rows": row.now.row_count}} if is_counted else 0)
 
     def keep_columns(self, step, now, own, stack):
         across, down = happenings.cursor_dot(now)
-        told = step, now.x, now.y, across, down, own, stack, NONE if self.open is None else len(self.pages) - 1, now.total
-        for some, number in zip(self.columns.values(), told):
-            some.append(number)
+        self.entries.append((step, now.x, now.y, across, down, own, stack, NONE if self.open is None else len(self.pages) - 1, now.total))
+        if len(self.entries) >= ENTRIES_IN_CHUNK:
+            self.end_columns()
+
+    def end_columns(self):
+        for some, numbers in zip(self.columns.values(), zip(*self.entries)):
+            some.extend(numbers)
+        self.entries = []
 
     def follow_page(self, run, line, entry):
         patch = line.get("page", ())
@@ -128,7 +134,7 @@ class Recorder:
     def keep_fields(self, run, view):
         """What changed; a chunk begins with all fields."""
         if not self.part:
-            self.part.append({name: dict(some) for name, some in run.fields.view.items()})
+            self.part.append({name: dict(some) for name, some in run.fields.whole_view().items()})
         self.part.append(view)
         if len(self.part) > ENTRIES_IN_CHUNK:
             self.end_fields()
@@ -140,6 +146,7 @@ class Recorder:
 
     def end(self):
         self.end_fields()
+        self.end_columns()
         if self.open is not None:
             self.open.end()
 
@@ -166,9 +173,10 @@ class Listing:
     def texts(self):
         """Of each row, and of the end: text, place, how it is spelled, what it is, its effect, flags, and why it leaves no trace, in a few words."""
         for row in rows(self.run, self.seen.judge, self.see):
-            self.note(row.offset, sum(1 + each.bodies for each in row.happenings))
-            told = row.told._replace(effect=cause_first(row.told.effect, row.because))
-            yield [shortened(row.text), *(shortened(part, LONGEST_REMARK) for part in told), flags_of(row), cause_of(row.met)]
+            self.note(row.offset, 1 if type(row.happenings[0]) is happenings.Row else sum(1 + each.bodies for each in row.happenings))
+            place, spelled, what, effect = row.told
+            effect = shortened(cause_first(effect, row.because) if row.because else effect, LONGEST_REMARK)
+            yield [shortened(row.text), place, shortened(spelled, LONGEST_REMARK), shortened(what, LONGEST_REMARK), effect, flags_of(row), cause_of(row.met)]
         self.note(len(self.run.stream), 1)
         yield ["uel", str(len(self.run.stream)), "", END, remarks.effect_of(self.run.end), flags_of_end(self.run), ""]
 
@@ -200,6 +208,8 @@ def cause_of(met):
 
 def flags_of(row):
     first = row.happenings[0]
+    if type(first) is happenings.Row and row.met is None:
+        return 0
     ignored = first.how in ("no row", "HP-GL/2")
     wrong = row.met is not None and not row.met[0].harmless
     return (IGNORED * ignored + SENDS * any(each.sheets for each in row.happenings) + REPLIES * any(each.replies for each in row.happenings)
@@ -212,13 +222,15 @@ def shortened(line, most=LONGEST_LINE):
 
 def picture(width, rows):
     """A small picture of a side, as a value of a link: a dot of it is 8 by 8 dots."""
-    shades = [png.PAPER - png.PAPER * black // 64 for black in range(65)]
-    counts = bytes(byte.bit_count() for byte in range(256))
-    made = []
+    made, across, white = [], -(-width // 8), bytes(-(-width // 8))
     for top in range(0, len(rows), 8):
-        some = sum(int.from_bytes(row.translate(counts), "big") for row in rows[top:top + 8])
-        made.append(bytes(shades[black] for black in some.to_bytes(-(-width // 8), "big")))
+        some = sum([int.from_bytes(row.translate(COUNTS), "big") for row in rows[top:top + 8] if row != white])
+        made.append(some.to_bytes(across, "big").translate(SHADES))
     return "data:image/png;base64," + base64.b64encode(png.png(made)).decode()
+
+
+COUNTS = bytes(byte.bit_count() for byte in range(256))
+SHADES = bytes(png.PAPER - png.PAPER * min(black, 64) // 64 for black in range(256))    # by how many of 64 dots are black
 
 
 def side_value(run, recorder, number, data, each):

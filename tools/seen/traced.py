@@ -6,6 +6,8 @@ import tempfile
 
 from . import program
 
+AT_ONCE = 1 << 16     # bytes that are read
+
 
 def who(chosen=program.PROGRAM):
     """Who tells the lines."""
@@ -18,7 +20,7 @@ def texts(stream, chosen=program.PROGRAM):
     with tempfile.TemporaryFile() as given, tempfile.TemporaryFile() as said:
         given.write(stream)
         given.seek(0)
-        with subprocess.Popen([chosen, "trace", "-"], stdin=given, stdout=subprocess.PIPE, stderr=said) as running:
+        with subprocess.Popen([chosen, "trace", "-"], stdin=given, stdout=subprocess.PIPE, stderr=said, bufsize=AT_ONCE) as running:
             yield from running.stdout
         if running.returncode:
             said.seek(0)
