@@ -10,11 +10,10 @@ from typing import NamedTuple
 
 from . import asm, debug_lines, defaults, pages, pbm, press, press_lines, runs, ticket, trace_lines
 from .engine import Deliver
-from .press_lines import FileFault, read_file, read_image
+from .press_lines import BAD_TEMPLATE, NUMBER, FileFault, read_file, read_image
 
 READ_FAULT = 304
-BAD_TEMPLATE, PAGE_FAULT, TEXT_FAULT, JOB_FAULT = 121, 301, 115, 614
-NUMBER = "%d"
+PAGE_FAULT, TEXT_FAULT, JOB_FAULT = 301, 115, 614
 STANDARD_OUTPUT = "/dev/stdout"
 FULL = "/dev/full"  # can be opened, and takes no byte
 
@@ -184,11 +183,11 @@ class Program:
         self.make(words[1], Job(read, images), JOB_FAULT)
 
     def press(self, words):
-        words = words[0].split("=") if len(words) == 1 and words[0].startswith("--engines=") else words
-        if words and (len(words) != 2 or words[0] != "--engines" or press_lines.number_of(words[1].encode()) is None):
-            raise NoAnswer()
-        status, out, err = press_lines.played(words, self.given, self.folder, job_of=self.job_of)[0]
-        return Answer(status, out, err, {})
+        try:
+            (status, out, err), lines = press_lines.played(words, self.given, self.folder, job_of=self.job_of)
+        except press_lines.BadWords:
+            raise NoAnswer() from None
+        return Answer(status, out, err, lines.folder.made if lines else {})
 
 
 def with_defaults(words):

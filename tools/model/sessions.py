@@ -1,10 +1,12 @@
 """Random sessions of the press: files of messages and images, and a script of lines.
 
 Most sessions are of any events; some end their jobs by long turns, some fill the queue first, and in some a file is missing or
-is no image, which ends the program. With several engines some begin, suspend and resume as many entries as may be in flight.
+is no image, which ends the program. With several engines some begin, suspend and resume as many entries as may be in flight. A third
+each makes files of the sides, lists sums, and goes on behind lines that are wrong.
 """
 
 import json
+from typing import NamedTuple
 
 from . import job_queue, table, ticket
 from .pages import SIZES
@@ -13,6 +15,14 @@ MIXED, LONG, FULL, FAULTY, FLIGHT = "mixed", "long", "full", "faulty", "flight"
 ENTRIES_OF_A_FULL_QUEUE = 64
 ENTRIES_TO_BEGIN = 12
 GREATEST_NUMBER = 2 ** 64 - 1
+WRONG_LINES = 6
+
+PAGES = "pages"  # a folder that is there
+TEMPLATES = ["%q-%d.pbm", "%d%q", "%d of %q", "%%q-%d", "%%d%%q%%", "%q%%%d.%", "%q%D%d%Q", "./%q_%d", PAGES + "/%q-%d", "\u00e9%q\u00fc%d"]
+SAME_NAMES = ["%q%d", "%%q%d%%"]  # Q1 has in its page 11 the name that Q11 has in its first
+NO_TEMPLATES = ["page", "", "%q", "%d.pbm", "%q-%q", "%q-%d-%q", "%d%q%d", "%%qd", "%dq", "%q-%03d", "%Q-%D", "%q%", "%d-%%q-%%d"]
+NO_FOLDER = "none/%q-%d"
+COPIES_OF_THE_FIRST = 11
 
 ENTRY_TYPES = ["HoldQueueEntry", "ResumeQueueEntry", "SuspendQueueEntry", "AbortQueueEntry", "RemoveQueueEntry",
                "SetQueueEntryPriority", "SetQueueEntryPosition"]
@@ -61,6 +71,11 @@ NO_TURNS_OF_ENGINES = [
 ]
 
 
+class Link(NamedTuple):
+    """What stands for the content of a link: the name that it leads to, which is of the session's folder."""
+    target: str
+
+
 def spelled(value):
     return json.dumps(value)
 
@@ -73,7 +88,7 @@ def object_of(members, separators=(",", ":")):
 
 class Maker:
     """Makes a session of so many events, at whose end queue and device are asked for; `kind` says which. `files` are by name,
-    and None for a folder. `upto` is the last group of what the press knows."""
+    and None for a folder, or a link. `upto` is the last group of what the press knows."""
 
     def __init__(self, maker, events, upto=table.BUILT):
         self.maker = maker
@@ -108,7 +123,72 @@ class Maker:
             self.lines.append(self.faulty_line() if number == place else self.event())
         self.lines += [self.message(self.text_of(kind, [])) for kind in ("QueueStatus", "Status")]
         self.end = b"" if self.chance(0.1) else b"\n"
+        self.ask_for_more()
         return self
+
+    # Options
+
+    def ask_for_more(self):
+        """Files of the sides, sums, and lines that are wrong."""
+        options = []
+        if self.chance(1 / 3):
+            options.append(self.make_files())
+        if self.chance(1 / 3):
+            options.append(["--sums"])
+        if self.chance(1 / 3):
+            options.append(["--keep-going"])
+            self.add_lines([self.faulty_line() for _ in range(self.maker.randint(1, WRONG_LINES))])
+        options.append(self.words)
+        self.maker.shuffle(options)
+        self.words = [word for words in options for word in words]
+
+    def make_files(self):
+        """The words that ask for files, whose names may be those of older files, of folders and of inputs."""
+        template = self.template()
+        if template in SAME_NAMES:
+            self.lines = self.lines_of_same_names() + self.lines
+        if template.startswith(PAGES):
+            self.files[PAGES] = None
+        if self.chance(0.3):
+            self.files[self.name_of_a_side(template)] = self.pick([b"older", None, self.link(), self.link()])
+        if self.chance(0.3):
+            self.add_lines(self.lines_of_sides(template))
+        return ["--out=" + template] if self.chance(0.2) else ["--out", template]
+
+    def template(self):
+        pick = self.maker.random()
+        if pick < 0.1:
+            return self.pick([*NO_TEMPLATES[2:], NO_FOLDER])
+        return self.pick(SAME_NAMES if pick < 0.2 else TEMPLATES)
+
+    def name_of_a_side(self, template):
+        return template.replace("%q", f"Q{self.pick([1, 1, 2, 2, 3, 4, 6])}").replace("%d", self.pick("11123"))
+
+    def link(self):
+        """To an input, or to another file."""
+        return Link(self.pick([self.file("o", b"other"), *(name for name in self.files if name[0] in "im")]))
+
+    def lines_of_same_names(self):
+        """Jobs whose sides have names twice, and turns that print them."""
+        image = [self.image()]
+        copies = [COPIES_OF_THE_FIRST] + [1] * 10
+        texts = [self.submission_text(self.plain_members() | {"Amount": amount}, []) for amount in copies]
+        return [self.message(text, image) for text in texts] + [b"turn %d" % GREATEST_NUMBER] * len(copies)
+
+    def lines_of_sides(self, template):
+        """Messages whose files have the names of sides: made by the press, or older ones, which it may not replace."""
+        name = self.name_of_a_side(template)
+        if " " in name:
+            return []
+        if self.chance(0.5):
+            self.files[name] = self.image()
+        text = self.file("m", self.submission_text(self.plain_members(), []))
+        first, image = self.pick([(name, None), (text, name), (text, name)])
+        return [" ".join(["message", first] + ([image] if image else [])).encode()]
+
+    def add_lines(self, lines):
+        for line in lines:
+            self.lines.insert(self.maker.randint(0, len(self.lines)), line)
 
     def script(self):
         """The last line may lack its LF."""

@@ -1,6 +1,7 @@
 #!/usr/bin/env python3
 """Worked examples with their values. Run as a script; each test is a function named for what it shows."""
 
+import hashlib
 import random
 import sys
 import tempfile
@@ -1001,14 +1002,18 @@ def refused_code(number, call, *arguments):
         raise AssertionError("it was carried out")
 
 
+def write_files(folder, files):
+    for name, content in files.items():
+        if content is None:
+            (folder / name).mkdir()
+        else:
+            (folder / name).write_bytes(content)
+
+
 def session(script, files):
     """What the lines of a script print, with files of these contents; a file of no content is a folder."""
     with tempfile.TemporaryDirectory() as place:
-        for name, content in files.items():
-            if content is None:
-                (Path(place) / name).mkdir()
-            else:
-                (Path(place) / name).write_bytes(content)
+        write_files(Path(place), files)
         return played([], script, place, upto="jobs")[0]
 
 
@@ -1032,6 +1037,52 @@ def test_lines_of_the_press():
     for line, fault in [(b"none", 304), (b"single none", 304), (b"single bad", 111), (b"single dot bad none", 111), (b"folder", 304),
                         (b"single folder", 114), (b"none bad", 304), (b"status none", 304)]:
         assert session(b"pause\nmessage " + line + b"\npause\n", files) == (1, b"ok\n", b"fault %d\n" % fault)
+
+
+def session_with_files(words, script, files):
+    """What a session with these words answers, and the files that it makes."""
+    with tempfile.TemporaryDirectory() as place:
+        write_files(Path(place), files)
+        answer, lines = played(words.split(), script, place)
+        return answer, lines.folder.made if lines else {}
+
+
+DOT, OTHER_DOTS = pbm.bytes_of_rows(["1"]), pbm.bytes_of_rows(["101", "111"])
+PRINTING = b"message pair dot other\nmessage single other\nturn 100000\nturn 100000\n"
+
+
+def files_of_printing():
+    return {"pair": submission(2, changes={"Sides": "TwoSidedHeadToHead", "Amount": 2}), "dot": DOT, "other": OTHER_DOTS, "single": submission()}
+
+
+def test_files_of_sides():
+    printed = session(PRINTING, files_of_printing())[1].decode().splitlines(keepends=True)
+    told = ["sheet Q1 1 front %Q1-1%\n", "sheet Q1 1 back %Q1-2%\n", "sheet Q1 2 front %Q1-3%\n", "sheet Q1 2 back %Q1-4%\n", "sheet Q2 1 front %Q2-1%\n"]
+    (status, out, err), made = session_with_files("--sums --out %%q-%d%", PRINTING, files_of_printing())
+    sums = [" sha256 " + hashlib.sha256(made[line.split()[-1]]).hexdigest() + "\n" for line in told]
+    listed = [line.rstrip("\n") + end for line, end in zip(printed[4:], sums)]
+    assert (status, out.decode(), err) == (0, "".join(printed[:2] + told[:4] + printed[2:3] + told[4:] + printed[3:4] + listed), b"")
+    assert sorted(made) == ["%Q1-1%", "%Q1-2%", "%Q1-3%", "%Q1-4%", "%Q2-1%"]
+    width, rows, _ = pbm.read(made["%Q1-1%"])
+    assert (width, len(rows)) == LETTER and sum(row.count("1") for row in rows) == 1
+    for words, fault in [("--out %%qd", 121), ("--out %q", 121), ("--out %d-%q-%d", 121), ("--out %q-%03d", 121), ("--out page --engines 5", 701)]:
+        assert session_with_files(words, PRINTING, files_of_printing()) == ((1, b"", b"fault %d\n" % fault), {})
+
+
+def test_wrong_lines():
+    files = files_of_printing() | {"bad": b"P5", "folder": None, "Q1-2": None}
+    script = b"message none\nmessage single bad\nmessage single folder none\nturn 0 1\nmessage single other\nturn 1\n"
+    answers = b'fault 304\nfault 111\nfault 114\nfault 702\n{"QueueEntryID":"Q1","ReturnCode":0,"Type":"SubmitQueueEntry","refID":"m1"}\nturn Q1 1\n'
+    assert session_with_files("--keep-going", script, files)[0] == (0, answers, b"")
+    assert session_with_files("", script, files)[0] == (1, b"", b"fault 304\n")
+    # a file that cannot be made ends it
+    (status, out, err), made = session_with_files("--keep-going --out %q-%d", PRINTING, files)
+    assert (status, out.count(b"\n"), err, list(made)) == (1, 2, b"fault 301\n", ["Q1-1"])
+    # no file is made over an input, also not over one that stands behind what is wrong
+    for first in (b"message Q2-1", b"message none Q2-1", b"message single bad Q2-1"):
+        (status, out, err), made = session_with_files("--keep-going --out %q-%d", first + b"\n" + PRINTING, files_of_printing() | {"Q2-1": DOT, "bad": b"P5"})
+        assert (status, err, sorted(made)) == (1, b"fault 301\n", ["Q1-1", "Q1-2", "Q1-3", "Q1-4"]), first
+    assert session_with_files("--out %q-%d", PRINTING, files_of_printing() | {"Q2-1": DOT})[0][0] == 0
 
 
 def test_failed_reply_after_two_sheets():
