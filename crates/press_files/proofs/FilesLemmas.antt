@@ -34,7 +34,7 @@ use Rattle.press_files.specs.Printing.{status_of_fault}
 use Rattle.press_files.proofs.ListingLemmas.{read_all}
 
 -- what was made is stored as a list of pairs
-made_code : Coded (Option (List MadeOutput))
+pub made_code : Coded (Option (List MadeOutput))
 made_code =
     coded_option (coded_list (code_by (List ℕ × Option (List ℕ)) (coded× (coded_list coded_ℕ) (coded_option (coded_list coded_ℕ)))
     (λ output. (output.name, output.holds)) (λ parts. record { name = parts.0; holds = parts.1 }) (λ _. refl)))

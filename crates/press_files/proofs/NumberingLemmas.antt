@@ -1,5 +1,5 @@
 -- Numbers of sheets among those of their entry, one sheet after another.
-use Rattle.std.proofs.Common.{◌≡◌, ◌≢◌, ◌∙◌, ◌≤◌, ℕ, ◌+◌, List, [], ◌∷◌, ◌++◌, length, nat_eq, suc, Bool}
+use Rattle.std.proofs.Common.{◌≡◌, ◌≢◌, ◌⊎◌, ◌∙◌, ◌≤◌, ℕ, ◌+◌, List, [], ◌∷◌, ◌++◌, length, nat_eq, suc, Bool, is_some}
 use Rattle.std.proofs.Common.{true, false, Option, Some, inl, inr, refl, sym, ap, arith, if◌then◌else◌}
 use Rattle.std.specs.Prelude.{cond, unwrap_or, is_ok, IsOk, Result}
 use Rattle.std.specs.Map.{lookup}
@@ -7,8 +7,12 @@ use Rattle.std.proofs.lemmas.Bool.{eq-eqb}
 use Rattle.std.proofs.lemmas.Bool.Decides.{eqb_tells}
 use Rattle.std.proofs.lemmas.List.{map_push}
 use Rattle.press_files.specs.declared.entry_sheets.EntrySheet.{EntrySheet}
-use Rattle.press_files.specs.EntrySheets.{entries_of, numbers_of}
-use Rattle.press_files.specs.Numbering.{occurrences_of, numbers_after}
+use Rattle.press_sink.specs.PrintedSheet.{PrintedSheet}
+use Rattle.press_sink.specs.Template.{side_count}
+use Rattle.press_sink.specs.declared.sheet.Delivery.{Delivery}
+use Rattle.press_files.specs.declared.entry_sheets.EntryCount.{EntryCount}
+use Rattle.press_files.specs.EntryKept.{ArePlaced, count_in, entries_of, entry_deliveries_of, numbers_of}
+use Rattle.press_files.specs.Numbering.{occurrences_of, numbers_after, sides_of}
 
 at_most_one : (b : Bool) (n m : ℕ) → n ≤ m → (if b then 1 else 0) + n ≤ suc m
 at_most_one true n m within = omega (arith, within)
@@ -54,13 +58,13 @@ numbered-push sheets one numbered next =
     ∙ numbers-push [] (entries_of sheets) one.sheet.tag)
 
 -- the count of the entry that came
-occurrences_of-same : (entry : ℕ) (entries : List ℕ) → occurrences_of entry (entries ++ entry ∷ []) ≡ occurrences_of entry entries + 1
+pub occurrences_of-same : (entry : ℕ) (entries : List ℕ) → occurrences_of entry (entries ++ entry ∷ []) ≡ occurrences_of entry entries + 1
 occurrences_of-same entry entries =
     occurrences_of-push entry entries entry
     ∙ ap (λ (b : Bool). occurrences_of entry entries + (if b then 1 else 0)) (eq-eqb entry entry refl)
 
 -- and of another one
-occurrences_of-other : (entry one : ℕ) (entries : List ℕ) → nat_eq entry one ≡ false
+pub occurrences_of-other : (entry one : ℕ) (entries : List ℕ) → nat_eq entry one ≡ false
     → occurrences_of entry (entries ++ one ∷ []) ≡ occurrences_of entry entries
 occurrences_of-other entry one entries other =
     let none : occurrences_of entry entries + 0 ≡ occurrences_of entry entries = omega arith in
@@ -69,21 +73,86 @@ occurrences_of-other entry one entries other =
 apart : (one other : ℕ) → one ≢ other → nat_eq other one ≡ false
 apart one other differ = elim (eqb_tells other one) [ inl same ↦ absurd (differ (sym same.1)) | inr not ↦ not.0 ]
 
--- counts of entries, one of them by one more
-pub counted-push : (before after : List (ℕ × ℕ)) (entries : List ℕ) (one n : ℕ)
-    → ((entry : ℕ) → unwrap_or (lookup (nat_eq entry) before) 0 ≡ occurrences_of entry entries)
+-- what is counted of entries, one of which has another count
+pub counts-push : (of : EntryCount → ℕ) (amount next : ℕ → ℕ) (before after : List (ℕ × EntryCount)) (one : ℕ) (n : EntryCount)
+    → ((entry : ℕ) → of (count_in entry before) ≡ amount entry)
     → ((entry : ℕ) → lookup (nat_eq entry) after ≡ cond (nat_eq one entry) (Some n) (lookup (nat_eq entry) before))
-    → n ≡ occurrences_of one entries + 1 → (entry : ℕ)
-    → unwrap_or (lookup (nat_eq entry) after) 0 ≡ occurrences_of entry (entries ++ one ∷ [])
-counted-push before after entries one n counted updates next entry =
+    → of n ≡ next one → ((entry : ℕ) → nat_eq entry one ≡ false → next entry ≡ amount entry) → (entry : ℕ)
+    → of (count_in entry after) ≡ next entry
+counts-push of amount next before after one n counted updates more others entry =
+    let found : Option EntryCount → ℕ = λ o. of (unwrap_or o (record { sheets = 0; sides = 0 })) in
     elim (eqb_tells one entry) [
       | inl same ↦
-          ap (λ (o : Option ℕ). unwrap_or o 0) (updates entry ∙ ap (λ (b : Bool). cond b (Some n) (lookup (nat_eq entry) before)) same.0)
-          ∙ next ∙ sym (occurrences_of-same one entries)
-          ∙ ap (λ (e : ℕ). occurrences_of e (entries ++ one ∷ [])) same.1
+          ap found (updates entry ∙ ap (λ (b : Bool). cond b (Some n) (lookup (nat_eq entry) before)) same.0)
+          ∙ more ∙ ap next same.1
       | inr not ↦
-          ap (λ (o : Option ℕ). unwrap_or o 0) (updates entry ∙ ap (λ (b : Bool). cond b (Some n) (lookup (nat_eq entry) before)) not.0)
-          ∙ counted entry ∙ sym (occurrences_of-other entry one entries (apart one entry not.1))
+          ap found (updates entry ∙ ap (λ (b : Bool). cond b (Some n) (lookup (nat_eq entry) before)) not.0)
+          ∙ counted entry ∙ sym (others entry (apart one entry not.1))
+    ]
+
+-- ---- the sides of entries
+
+two-at-most : (b : Bool) → (if b then 2 else 1) ≤ 2
+two-at-most true = omega arith
+two-at-most false = omega arith
+
+pub side_count-small : (sheet : PrintedSheet) → side_count sheet ≤ 2
+side_count-small sheet = two-at-most (is_some sheet.back)
+
+two_more : (b : Bool) (sheet : PrintedSheet) (n m : ℕ) → n ≤ m + m → (if b then side_count sheet else 0) + n ≤ suc m + suc m
+two_more true sheet n m within = let few = side_count-small sheet in omega (arith, within, few)
+two_more false sheet n m within = omega (arith, within)
+
+-- an entry has no more sides than twice as many as there are deliveries
+pub sides_of-within : (entry : ℕ) (deliveries : List Delivery) → sides_of entry deliveries ≤ length deliveries + length deliveries
+sides_of-within entry [] = omega arith
+sides_of-within entry (one ∷ deliveries) =
+    two_more (nat_eq entry one.tag) one.sheet (sides_of entry deliveries) (length deliveries) (sides_of-within entry deliveries)
+
+-- one more sheet
+sides_of-push : (entry : ℕ) (deliveries : List Delivery) (one : Delivery)
+    → sides_of entry (deliveries ++ one ∷ []) ≡ sides_of entry deliveries + (if nat_eq entry one.tag then side_count one.sheet else 0)
+sides_of-push entry [] one = omega arith
+sides_of-push entry (first ∷ deliveries) one =
+    let rest = sides_of-push entry deliveries one in omega (arith, rest)
+
+pub sides_of-same : (deliveries : List Delivery) (one : Delivery)
+    → sides_of one.tag (deliveries ++ one ∷ []) ≡ sides_of one.tag deliveries + side_count one.sheet
+sides_of-same deliveries one =
+    sides_of-push one.tag deliveries one
+    ∙ ap (λ (b : Bool). sides_of one.tag deliveries + (if b then side_count one.sheet else 0)) (eq-eqb one.tag one.tag refl)
+
+pub sides_of-other : (entry : ℕ) (deliveries : List Delivery) (one : Delivery) → nat_eq entry one.tag ≡ false
+    → sides_of entry (deliveries ++ one ∷ []) ≡ sides_of entry deliveries
+sides_of-other entry deliveries one other =
+    let none : sides_of entry deliveries + 0 ≡ sides_of entry deliveries = omega arith in
+    sides_of-push entry deliveries one
+    ∙ ap (λ (b : Bool). sides_of entry deliveries + (if b then side_count one.sheet else 0)) other ∙ none
+
+-- ---- places
+
+-- what stands in a list that ends with an item is that one, or stands before it
+last_or_before : {A : Type 0} (xs : List A) (x : A) (front : List A) (y : A) (behind : List A) → xs ++ x ∷ [] ≡ front ++ y ∷ behind
+    → ((front ≡ xs) × (y ≡ x)) ⊎ ((rest : List A) × (xs ≡ front ++ y ∷ rest))
+last_or_before [] x [] y behind is = inl (refl, cc)
+last_or_before [] x (z ∷ []) y behind is = absurd cc
+last_or_before [] x (z ∷ w ∷ front) y behind is = absurd cc
+last_or_before (z ∷ xs) x [] y behind is = inr (xs, cc)
+last_or_before (z ∷ xs) x (w ∷ front) y behind is =
+    let rest : xs ++ x ∷ [] ≡ front ++ y ∷ behind = cc in
+    let heads : z ≡ w = cc in
+    elim (last_or_before xs x front y behind rest) [
+      | inl last ↦ inl (cc (heads, last.0), last.1)
+      | inr before ↦ inr (before.0, cc (heads, before.1))
+    ]
+
+-- one more sheet stands under its numbers
+pub placed-push : (sheets : List EntrySheet) (one : EntrySheet) → ArePlaced sheets → one.number ≡ occurrences_of one.sheet.tag (entries_of sheets) + 1
+    → one.side ≡ sides_of one.sheet.tag (entry_deliveries_of sheets) + 1 → ArePlaced (sheets ++ one ∷ [])
+placed-push sheets one placed number side front each behind is =
+    elim (last_or_before sheets one front each behind is) [
+      | inl last ↦ rw (last.0, last.1) (number, side)
+      | inr before ↦ placed front each before.0 before.1
     ]
 
 -- what a push leaves that had room

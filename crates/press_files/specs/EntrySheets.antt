@@ -1,21 +1,28 @@
 -- The sheets of the entries of a press, of which the listing keeps what it tells.
-use Rattle.std.specs.Prelude.{ℕ, List, map}
+use Rattle.std.specs.Prelude.{◌<◌, Bool, List, Some, vec_len, vec_capacity}
+use Rattle.indexmap.specs.IndexMap.{spare}
+use Rattle.press_sink.specs.SinkLog.{SheetLog}
 use Rattle.press_sink.specs.declared.sheet.Delivery.{Delivery}
 use Rattle.press_files.specs.declared.entry_sheets.EntrySheet.{EntrySheet}
 use Rattle.press_files.specs.declared.entry_sheets.EntrySheets.{EntrySheets}
-use Rattle.press_files.specs.Listed.{delivery_of}
+use Rattle.press_files.specs.EntryKept.{entry_deliveries_of}
 
 -- what a sink of the sheets of entries kept
 abbrev pub kept : EntrySheets → List EntrySheet
 kept sink = sink.sheets.items
 
--- sheets as they were delivered, each under the number of its entry
-abbrev pub entry_deliveries_of : List EntrySheet → List Delivery
-entry_deliveries_of sheets = map (λ one. delivery_of one.sheet) sheets
+-- the deliveries of which it keeps what the listing tells
+abbrev pub deliveries_in : EntrySheets → List Delivery
+deliveries_in sink = entry_deliveries_of (kept sink)
 
--- the entries of sheets, and their numbers
-abbrev pub entries_of : List EntrySheet → List ℕ
-entries_of sheets = map (λ one. one.sheet.tag) sheets
+-- whether it lists sums
+abbrev pub lists_sums : EntrySheets → Bool
+lists_sums sink = sink.sums
 
-abbrev pub numbers_of : List EntrySheet → List ℕ
-numbers_of sheets = map (λ one. one.number) sheets
+-- what it tells as a sink
+abbrev pub kept_log : EntrySheets → SheetLog
+kept_log sink = record { delivered = Some (deliveries_in sink); faults = 0 }
+
+-- there is room for one sheet more
+abbrev pub HasRoom : EntrySheets → Type 0
+HasRoom sink = (vec_len sink.sheets < vec_capacity sink.sheets) × (0 < spare sink.counts)

@@ -1,8 +1,11 @@
 -- Streams that are printed or listed, and the inputs and outputs of the program.
 pub mod Causes
 pub mod Change
+pub mod EntryKept
 pub mod EntryListing
+pub mod EntryPages
 pub mod EntrySheets
+pub mod EntryTemplate
 pub mod Faults
 pub mod Files
 pub mod Folders
@@ -13,4 +16,5 @@ pub mod Measured
 pub mod NamedFiles
 pub mod NamedInputs
 pub mod Numbering
+pub mod PagesKept
 pub mod Printing

@@ -1,5 +1,7 @@
--- Numbers of sheets, each among those of its own entry.
+-- Numbers of sheets and of sides, each among those of its own entry.
 use Rattle.std.specs.Prelude.{ℕ, ◌+◌, List, [], ◌∷◌, nat_eq, if◌then◌else◌}
+use Rattle.press_sink.specs.declared.sheet.Delivery.{Delivery}
+use Rattle.press_sink.specs.Template.{side_count}
 
 -- how often an entry stands in a list of entries
 abbrev pub occurrences_of : (entry : ℕ) → List ℕ → ℕ
@@ -10,3 +12,8 @@ occurrences_of entry (one ∷ entries) = (if nat_eq entry one then 1 else 0) + o
 abbrev pub numbers_after : (before entries : List ℕ) → List ℕ
 numbers_after before [] = []
 numbers_after before (entry ∷ entries) = (occurrences_of entry before + 1) ∷ numbers_after (entry ∷ before) entries
+
+-- how many sides the sheets of an entry have among deliveries
+abbrev pub sides_of : (entry : ℕ) → List Delivery → ℕ
+sides_of entry [] = 0
+sides_of entry (one ∷ deliveries) = (if nat_eq entry one.tag then side_count one.sheet else 0) + sides_of entry deliveries

@@ -2,7 +2,9 @@
 #![tactic(auto)]
 
 mod digest;
+mod entry_pages;
 mod entry_sheets;
+mod entry_template;
 mod files;
 mod held_replies;
 mod inputs;
@@ -11,12 +13,15 @@ mod listing;
 mod listing_sink;
 mod measures;
 mod named_inputs;
+mod page_lines;
 mod stream;
 mod taken;
 mod through_replies;
 mod told_folder;
 
+pub use entry_pages::{EntryFolder, EntryPages};
 pub use entry_sheets::EntrySheets;
+pub use entry_template::EntryTemplate;
 pub use files::{Finished, print_files};
 pub use inputs::{InputError, read_all};
 pub use listing::{Answered, list_delivered, print_list, print_sums};

@@ -1,5 +1,6 @@
 //! What a listing tells of a sheet.
 ghost use Rattle.std.specs.Prelude.{◌≡◌, option_map};
+ghost use Rattle.press_sink.specs.Template.{side_count};
 ghost use Rattle.press_files.specs.Measured.{measures_by};
 
 use crate::measures::Measures;
@@ -38,6 +39,13 @@ impl ListedSheet {
             back,
             sheet: Snapshot::of(sheet),
         }
+    }
+
+    /// How many sides the sheet has.
+    pub fn sides(&self) -> u64
+        ensures { result ≡ side_count self.now.sheet.value }
+    {
+        if self.back.is_some() { 2 } else { 1 }
     }
 
     /// What the listing tells of the same sheet once more: its dots are not counted again.

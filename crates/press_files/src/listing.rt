@@ -6,7 +6,8 @@ ghost use Rattle.press_devices.specs.Writing.{Writes};
 ghost use Rattle.press_files.specs.Causes.{failures};
 ghost use Rattle.press_files.specs.Listing.{line_end, measured_line, measures_text, sheet_lines, Lists, ListsBy, ListsSums, ListsPrinted, PrintsListing, PrintsListingBy, PrintsSums};
 ghost use Rattle.press_files.specs.EntryListing.{entry_mark, entry_measured_line, entry_sheet_lines, entry_lines, entry_listing};
-ghost use Rattle.press_files.specs.EntrySheets.{kept, entry_deliveries_of};
+ghost use Rattle.press_files.specs.EntryKept.{entry_deliveries_of};
+ghost use Rattle.press_files.specs.EntrySheets.{kept, lists_sums};
 
 use crate::digest::digits_of;
 use crate::entry_sheets::{EntrySheet, EntrySheets};
@@ -229,7 +230,7 @@ fn end_line<W: WriteDevice>(out: &mut W, digest: Option<[u8; 32]>) -> io::Result
 /// Where a write or the flush failed. A prefix of the listing is written then.
 pub fn list_delivered<W: WriteDevice>(out: &mut W, sheets: &EntrySheets) -> io::Result<()>
     ensures written { Writes result (W.contents out.old) (W.contents out.new)
-        (entry_listing (entry_deliveries_of (kept sheets.now))) }
+        (entry_listing (lists_sums sheets.now) (entry_deliveries_of (kept sheets.now))) }
     ensures flushed { OnOk result (W.waiting out.new ≡ false) }
     ensures cause { OnErr result (W.failed out.new ≡ true) }
 {
@@ -252,7 +253,8 @@ fn list_entries<W: WriteDevice>(out: &mut W, sheets: &[EntrySheet]) -> io::Resul
 /// Lists the sides of one sheet of an entry.
 fn list_entry_sheet<W: WriteDevice>(out: &mut W, sheet: &EntrySheet) -> io::Result<()>
     ensures written { Writes result (W.contents out.old) (W.contents out.new)
-        (entry_sheet_lines sheet.now.sheet.tag sheet.now.number sheet.now.sheet.sheet.value) }
+        (entry_sheet_lines sheet.now.sheet.sums sheet.now.sheet.tag sheet.now.number
+        sheet.now.sheet.sheet.value) }
     ensures cause { OnErr result (W.failed out.new ≡ true) }
 {
     let entry = sheet.sheet.tag;

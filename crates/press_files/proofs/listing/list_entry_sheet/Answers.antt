@@ -10,7 +10,7 @@ pub returns-in_err-list_entry_side-clause-written : goal.returns-in_err-list_ent
 returns-in_err-list_entry_side-clause-written g c =
     let sheet = c.args.sheet.now in
     let front = entry_measured_line sheet.sheet.tag sheet.number (codes "front") sheet.sheet.front in
-    subst (Writes _ _ _) (entry_sheet_lines-kept sheet.sheet.tag sheet.number sheet.sheet sheet.plain)
+    subst (Writes _ _ _) (entry_sheet_lines-kept sheet.sheet.tag sheet.number sheet.sheet)
     (Writes-stopped _ _ _ front _ c.from_residual.ensures.0 c.in_err-list_entry_side.ensures.written)
 
 pub returns-in-Some-clause-written : goal.returns-in-Some-clause-written
@@ -19,5 +19,5 @@ returns-in-Some-clause-written g c =
     let front = entry_measured_line sheet.sheet.tag sheet.number (codes "front") sheet.sheet.front in
     let back = entry_measured_line sheet.sheet.tag sheet.number (codes "back") in
     subst (Writes _ _ _)
-    (ap (λ kept. front ++ kept_line back kept) (sym c.in-Some.is) ∙ entry_sheet_lines-kept sheet.sheet.tag sheet.number sheet.sheet sheet.plain)
+    (ap (λ kept. front ++ kept_line back kept) (sym c.in-Some.is) ∙ entry_sheet_lines-kept sheet.sheet.tag sheet.number sheet.sheet)
     (Writes-then _ _ _ _ front (back c.in-Some.back) c.in_ok-list_entry_side.ensures.written c.list_entry_side-in-Some.ensures.written)
