@@ -1,8 +1,9 @@
 -- The code's requests and refusals as contracts see them.
-use Rattle.std.specs.Prelude.{◌≡◌, ℕ, List, map}
+use Rattle.std.specs.Prelude.{◌≡◌, ℕ, List, map, option_map}
 use Rattle.clap.specs.Words.{IsAmong, Text, fault_of, kind_of}
 use Rattle.clap.specs.declared.error.kind.ErrorKind.{ErrorKind}
 use Rattle.clap.specs.declared.error.kind.ErrorKind.TheVariants.{DisplayHelp, DisplayVersion, OutOfMemory}
+use Rattle.press_words.specs.declared.session_words.SessionRequest.{SessionRequest}
 use Rattle.press_words.specs.declared.words.Input.{Input}
 use Rattle.press_words.specs.declared.words.Input.TheVariants as inputs
 use Rattle.press_words.specs.declared.words.Output.{Output}
@@ -10,19 +11,28 @@ use Rattle.press_words.specs.declared.words.Output.TheVariants as outputs
 use Rattle.press_words.specs.declared.words.Request.{Request}
 use Rattle.press_words.specs.declared.words.Refusal.{Refusal}
 use Rattle.press_words.specs.declared.words.Refusal.TheVariants.{Words, NoName, NoDefault}
-use Rattle.press_words.specs.Words.{Source, Standard, FileNamed, Made, Listed, SummedOf, FilesBy, Answered, AsText, DebuggedOf, TracedOf, PageTo, StreamTo, JobTo, Arguments, press_app}
+use Rattle.press_words.specs.Words.{Source, Standard, FileNamed, Made, Listed, SummedOf, FilesBy, SessionAsked, Answered, AsText, DebuggedOf, TracedOf, PageTo, StreamTo, JobTo, Arguments, press_app}
 
 -- an input by the text of its name
 abbrev pub source_seen : Input → Source
 source_seen inputs.Standard = Standard
 source_seen (inputs.File name) = FileNamed name.now
 
+-- what a session is asked for, by its texts
+abbrev pub session_seen : SessionRequest → SessionAsked
+session_seen asked = record {
+  engines = asked.engines;
+  template = option_map (λ template. template.now) asked.template;
+  sums = asked.sums;
+  goes_on = asked.goes_on;
+}
+
 -- an output by its texts
 abbrev pub made_seen : Output → Made
 made_seen (outputs.Listing prefix) = Listed prefix.items
 made_seen (outputs.Sums prefix) = SummedOf prefix.items
 made_seen (outputs.Files prefix template) = FilesBy prefix.items template.now
-made_seen (outputs.Session engines) = Answered engines
+made_seen (outputs.Session asked) = Answered (session_seen asked)
 made_seen outputs.Text = AsText
 made_seen (outputs.Debugged prefix name) = DebuggedOf prefix.items name.now
 made_seen (outputs.Traced prefix) = TracedOf prefix.items

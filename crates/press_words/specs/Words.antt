@@ -16,17 +16,25 @@ pub data Source : Type 0 where
   Standard : Source
   FileNamed : Text → Source
 
+-- What a session is asked for, beside its lines: how many engines its press has; by which template each side that is delivered is made a file,
+-- if it is; whether the listing has digests; and whether the session goes on behind a line that is wrong.
+pub record SessionAsked : Type 0 where
+  pub engines : ℕ
+  pub template : Option Text
+  pub sums : Bool
+  pub goes_on : Bool
+
 -- What is made of an input. A prefix is bytes that stand in front of the stream.
 -- Listed: the listing of a stream. SummedOf: the same with a digest of each side. FilesBy: the files of a stream, named by a template. AsText: the assembly text of a stream. TracedOf:
 -- the trace of a stream. PageTo: the file of this name, of the page that is open behind so many steps of a stream. DebuggedOf: a
--- debugger's answers to lines, over the stream of this file. Answered: the answers of a press with so many engines to lines of events,
--- and the listing of what it delivered. StreamTo: the file of this name, of an assembly text. JobTo: the file of this name, the job of a
+-- debugger's answers to lines, over the stream of this file. Answered: the answers of a press that is asked for so to lines of events, the
+-- files of the sides that it delivers, where they are asked for, and their listing. StreamTo: the file of this name, of an assembly text. JobTo: the file of this name, the job of a
 -- ticket with the images of these files.
 pub data Made : Type 0 where
   Listed : (prefix : List ℕ) → Made
   SummedOf : (prefix : List ℕ) → Made
   FilesBy : (prefix : List ℕ) (template : Text) → Made
-  Answered : (engines : ℕ) → Made
+  Answered : SessionAsked → Made
   AsText : Made
   DebuggedOf : (prefix : List ℕ) (name : Text) → Made
   TracedOf : (prefix : List ℕ) → Made
@@ -85,12 +93,21 @@ images_rule = record (new_rule (codes "IMG")) { action = Some Append }
 abbrev pub write_app : App
 write_app = with_rule (with_rule (with_rule (new_app (codes "write")) (needed_rule (codes "TICKET"))) (needed_rule (codes "OUT"))) images_rule
 
--- The word of `press`: how many engines it has.
+-- The words of `press`: how many engines it has, the template of files, the flag of digests, and that by which it goes on.
 abbrev pub engines_rule : Rule
 engines_rule = record (new_rule (codes "engines")) { long = Some (codes "engines"); value_names = 1 }
 
+abbrev pub pages_rule : Rule
+pages_rule = record (new_rule (codes "out")) { long = Some (codes "out"); value_names = 1 }
+
+abbrev pub keep_going_rule : Rule
+keep_going_rule = record (new_rule (codes "keep-going")) { long = Some (codes "keep-going"); action = Some SetTrue }
+
+abbrev pub playing_app : App
+playing_app = with_rule (with_rule (new_app (codes "press")) engines_rule) pages_rule
+
 abbrev pub session_app : App
-session_app = with_rule (new_app (codes "press")) engines_rule
+session_app = with_rule (with_rule playing_app sums_rule) keep_going_rule
 
 -- The program without its subcommands: it has a version.
 abbrev pub program_app : App
@@ -183,9 +200,19 @@ page_arguments rows = option_and_then (λ prefix. option_and_then (λ steps. pag
 abbrev pub engines_of : List Row → Option ℕ
 engines_of rows = option_map_or number_word (first_of (codes "engines") rows) (Some 1)
 
+-- what `press` asks a session for
+abbrev pub session_of : List Row → Option SessionAsked
+session_of rows =
+    option_map (λ engines. record {
+      engines = engines;
+      template = first_of (codes "out") rows;
+      sums = is_set (codes "sums") rows;
+      goes_on = is_set (codes "keep-going") rows;
+    }) (engines_of rows)
+
 -- what `press` asks for: the events stand on standard input
 abbrev pub session_arguments : List Row → Option Arguments
-session_arguments rows = option_map (λ engines. record { source = Standard; made = Answered engines }) (engines_of rows)
+session_arguments rows = option_map (λ session. record { source = Standard; made = Answered session }) (session_of rows)
 
 -- the subcommand of a name
 abbrev pub subcommand_named : Text → Option Subcommand

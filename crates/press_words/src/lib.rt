@@ -4,8 +4,10 @@
 
 mod defaults;
 mod lines;
+mod session_words;
 mod told_words;
 mod words;
 
 pub use lines::{WHAT, line_of, number_in, number_word, space_place, words_of};
+pub use session_words::SessionRequest;
 pub use words::{Input, Output, REFUSED, Refusal, Request, request_of};

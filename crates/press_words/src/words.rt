@@ -3,11 +3,12 @@ ghost use Rattle.std.specs.Prelude.{◌≡◌, ◌≢◌, ◌⊎◌, IfOk, IfErr
 ghost use Rattle.clap.specs.Words.{app_of, rule_of, new_app, new_rule, with_rule, kind_of, rows_of, found_of, subcommand_of, subcommand_rows_of, fault_of, FailsBy};
 ghost use Rattle.clap.specs.declared.builder.command.Command.TheViews.{out-Command};
 ghost use Rattle.clap.specs.declared.error.kind.ErrorKind.TheVariants.{OutOfMemory};
-ghost use Rattle.press_words.specs.Words.{list_rule, sums_rule, default_rule, needed_rule, images_rule, engines_rule, print_app, asm_app, disasm_app, debug_app, trace_app, page_app, write_app, session_app, program_app, press_app, source_of, made_behind, made_of, made_named, made_in, images_of, defaults_of, prefix_in, engines_of, print_arguments, asm_arguments, disasm_arguments, debug_of, debug_arguments, trace_arguments, steps_in, page_to, page_arguments, job_arguments, session_arguments, subcommand_named, arguments_of, arguments_by, arguments, is_set};
+ghost use Rattle.press_words.specs.Words.{list_rule, sums_rule, default_rule, needed_rule, images_rule, print_app, asm_app, disasm_app, debug_app, trace_app, page_app, write_app, session_app, program_app, press_app, source_of, made_behind, made_of, made_named, made_in, images_of, defaults_of, prefix_in, print_arguments, asm_arguments, disasm_arguments, debug_of, debug_arguments, trace_arguments, steps_in, page_to, page_arguments, job_arguments, session_arguments, subcommand_named, arguments_of, arguments_by, arguments, is_set};
 ghost use Rattle.press_words.specs.View.{AsksHelp, source_seen, made_seen, request_seen, status_of, IsForMemory};
 
 use crate::defaults::{are_assignments, prefix_of};
 use crate::lines::number_word;
+use crate::session_words::{SessionRequest, press_command, session_of};
 use crate::told_words::{has_controls, told_word, told_words};
 use clap::error::ErrorKind;
 use clap::{Arg, ArgAction, ArgMatches, Command, Error};
@@ -38,13 +39,15 @@ const AFTER_HELP: &str = "Examples:
   press write ticket.json job.prn page-1.pbm page-2.pbm
   press press < events.txt
   press press --engines 2 < events.txt
+  press press --out page-%q-%d.pbm --sums < events.txt
 
 A fault is told in one line on standard error. What each means, and what to do:
   fault 111, 113        an image is no P4 file (raw PBM), or its end is missing: make it again
   fault 112             an image has a side of 0 or above 16,384 dots: scale or cut it
   fault 114             an image was opened and cannot be read, as a folder: look at the file
   fault 115, 301, 614   a file cannot be made or written, or is an input: look at its name and the disk
-  fault 121             %d does not stand exactly once in OUT: name it as page-%d.pbm
+  fault 121             %d does not stand exactly once in OUT, as in page-%d.pbm, or not both %q and %d
+                        in the TEMPLATE of a session, as in page-%q-%d.pbm: name it so
   fault 302, output     standard output cannot be written: look who reads it
   fault 304             an input, also an image, cannot be opened or read: look at its name
   fault 401, 402, 403   a line of the text has an unknown form, a bad value, or data that does not fit:
@@ -60,10 +63,6 @@ docs/FAULTS.md says more of each. See also docs/ASSEMBLY.md, DEBUGGER.md, TICKET
 /// The lines of a debugger, for help.
 const DEBUGGER_HELP: &str =
     "Lines: step, over, go N, break KIND, clear N, recent. docs/DEBUGGER.md explains them.";
-
-/// The lines of a session, for help.
-const SESSION_HELP: &str = "Lines: message FILE [IMG...], turn N [ENGINE], pause, continue, abort. \
-    Engines are counted from 0. docs/QUEUE.md explains them.";
 
 /// Where an input is read.
 #[derive(Debug, Drop)]
@@ -83,8 +82,9 @@ pub enum Output<'a> {
     Sums(Vec<u8>),
     /// A file for each side of a stream, with these bytes in front of it, by this template.
     Files(Vec<u8>, &'a str),
-    /// The answers to lines of events, of a press with so many engines, and the listing of the sheets that it then delivered.
-    Session(u64),
+    /// The answers to lines of events, of a press that is asked for so, the files of the sides that it delivers, where they are asked for, and
+    /// their listing.
+    Session(SessionRequest<'a>),
     /// The assembly text of a stream.
     Text,
     /// The answers to the lines of a debugger of the stream of this file, with these bytes in front of it.
@@ -154,7 +154,7 @@ impl fmt::Display for Refusal {
                 "usage: press print IN OUT, press print --list IN, press asm IN OUT, press page IN K OUT or \
                 press write TICKET OUT [IMG...], where OUT is a file and not - and K is a number, \
                 press debug IN, where IN is a file and not -, \
-                or press press [--engines N], where N is a number"
+                or press press [--engines N] [--out TEMPLATE] [--sums] [--keep-going], where N is a number"
             ),
             Refusal::NoDefault(text) => writeln!(
                 f,
@@ -178,7 +178,7 @@ fn list_flag<'a>(alloc: Global) -> Arg<'a>
 }
 
 /// The flag that asks for a listing with digests.
-fn sums_flag<'a>(alloc: Global) -> Arg<'a>
+pub(crate) fn sums_flag<'a>(alloc: Global) -> Arg<'a>
     ensures rule { rule_of result ≡ sums_rule }
     ensures local { result.global ≡ false }
 {
@@ -363,28 +363,6 @@ fn write_command<'a>(alloc: Global) -> Result<Command<'a>, AllocError>
         .arg(images_word(alloc))
 }
 
-/// The option for the number of engines.
-fn engines_option<'a>(alloc: Global) -> Arg<'a>
-    ensures rule { rule_of result ≡ engines_rule }
-    ensures local { result.global ≡ false }
-{
-    Arg::new(alloc, "engines")
-        .long("engines")
-        .value_name("N")
-        .help("How many engines the press has, 1 to 4; one without it")
-}
-
-/// The subcommand `press`.
-fn press_command<'a>(alloc: Global) -> Result<Command<'a>, AllocError>
-    ensures app { IfOk result (λ command. app_of command ≡ session_app) }
-    ensures local { IfOk result (λ command. (out-Command command).has_globals ≡ false) }
-{
-    Command::new(alloc, "press")
-        .about("Plays a session with a press that has a queue, by the lines on standard input")
-        .after_help(SESSION_HELP)
-        .arg(engines_option(alloc))
-}
-
 /// The program, with its help, its version and no subcommand.
 fn program<'a>(alloc: Global) -> Command<'a>
     ensures { app_of result ≡ program_app }
@@ -425,7 +403,7 @@ fn parse<'a>(alloc: Global, words: &'a [&'a str]) -> Result<ArgMatches<'a>, Erro
 
 /// Whether a flag is set: its value is then `true`.
 #[tactic(auto, using(crate::proofs::WordsLemmas::value_by_rows))]
-fn has_flag(matches: &ArgMatches<'_>, flag: &str) -> bool
+pub(crate) fn has_flag(matches: &ArgMatches<'_>, flag: &str) -> bool
     ensures { result ≡ is_set flag.now (rows_of (found_of matches.now)) }
 {
     matches.get_str(flag).is_some_and(|value| value == "true")
@@ -685,25 +663,14 @@ fn page_request<'a>(
     }
 }
 
-/// How many engines the matches of `press` ask for: one where they say nothing of them.
-#[tactic(auto, using(crate::proofs::WordsLemmas::value_by_rows))]
-fn engines_of(matches: &ArgMatches<'_>) -> Option<u64>
-    ensures { result ≡ engines_of (rows_of (found_of matches.now)) }
-{
-    match matches.get_str("engines") {
-        Some(number) => number_word(number.as_bytes()),
-        None => Some(1),
-    }
-}
-
 /// What the matches of `press` ask for. The events stand on standard input.
 fn session_request<'a>(matches: &ArgMatches<'a>) -> Option<Request<'a>>
     ensures { option_map request_seen result ≡ session_arguments (rows_of (found_of matches.now)) }
 {
-    let engines = engines_of(matches)?;
+    let session = session_of(matches)?;
     Some(Request {
         input: Input::Standard,
-        output: Output::Session(engines),
+        output: Output::Session(session),
     })
 }
 

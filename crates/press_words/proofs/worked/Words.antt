@@ -1,5 +1,5 @@
 -- What some words ask for.
-use Rattle.std.specs.Prelude.{◌≡◌, [], ◌∷◌, Some, None, codes, refl}
+use Rattle.std.specs.Prelude.{◌≡◌, [], ◌∷◌, Some, None, codes, false, refl, true}
 use Rattle.clap.proofs.OnLiterals.{clap_on_literals}
 use Rattle.press_words.specs.Words.{Standard, FileNamed, Listed, SummedOf, FilesBy, Answered, AsText, DebuggedOf, TracedOf, PageTo, StreamTo, JobTo, arguments}
 
@@ -102,13 +102,25 @@ no_job : arguments (codes "press" ∷ codes "write" ∷ codes "t" ∷ []) ≡ No
 unfolding clap_on_literals
 no_job = refl
 
-session : arguments (codes "press" ∷ codes "press" ∷ []) ≡ Some (record { source = Standard; made = Answered 1 })
+session : arguments (codes "press" ∷ codes "press" ∷ [])
+    ≡ Some (record { source = Standard; made = Answered (record { engines = 1; template = None; sums = false; goes_on = false }) })
 unfolding clap_on_literals
 session = refl
 
-session_of_engines : arguments (codes "press" ∷ codes "press" ∷ codes "--engines" ∷ codes "04" ∷ []) ≡ Some (record { source = Standard; made = Answered 4 })
+session_of_engines : arguments (codes "press" ∷ codes "press" ∷ codes "--engines" ∷ codes "04" ∷ [])
+    ≡ Some (record { source = Standard; made = Answered (record { engines = 4; template = None; sums = false; goes_on = false }) })
 unfolding clap_on_literals
 session_of_engines = refl
+
+-- with a file for each side, with digests, and going on behind a line that is wrong
+session_of_files : arguments (codes "press" ∷ codes "press" ∷ codes "--out" ∷ codes "%q-%d" ∷ codes "--sums" ∷ codes "--keep-going" ∷ [])
+    ≡ Some (record { source = Standard; made = Answered (record { engines = 1; template = Some (codes "%q-%d"); sums = true; goes_on = true }) })
+unfolding clap_on_literals
+session_of_files = refl
+
+session_of_no_files : arguments (codes "press" ∷ codes "press" ∷ codes "--out" ∷ []) ≡ None
+unfolding clap_on_literals
+session_of_no_files = refl
 
 session_of_no_number : arguments (codes "press" ∷ codes "press" ∷ codes "--engines" ∷ codes "two" ∷ []) ≡ None
 unfolding clap_on_literals
