@@ -22,7 +22,7 @@ module _ {S : Type 0} (steps : S → DebuggerState) (breaks : S → List (Option
   does_line old line answer new = DoesLine (asked_of line) (sits old) answer (sits new)
 
   abbrev pub debugs : Talking S DebugError
-  debugs = line_by_line does_line (λ at line why. why ≡ NoMemory) (λ error why. why ≡ Input error) (λ error why. why ≡ Output error)
+  debugs = line_by_line does_line (λ at line why ended. why ≡ NoMemory) (λ error why. why ≡ Input error) (λ error why. why ≡ Output error)
 
   -- behind each line it stands in the trace
   lines_stand : (bytes : List ℕ) (lines : List (List ℕ)) (old : S) (answers : List ℕ) (new : S) → AnswersLines does_line lines old answers new → StandsIn bytes (steps old)
@@ -37,7 +37,7 @@ module _ {S : Type 0} (steps : S → DebuggerState) (breaks : S → List (Option
   is_seen bytes first stands = record {
     takes = λ lines answers last takes. (lines_stand bytes lines first answers last takes stands).0;
     line = λ lines answers last takes line answer next does. (lines_stand bytes (line ∷ []) last answer next does (lines_stand bytes lines first answers last takes stands).1).0;
-    refuses = λ lines answers last takes line why refuses. refuses;
+    refuses = λ lines answers last takes line why ended refuses. refuses;
     unread = λ error why is. is;
     unwritten = λ error why is. is;
   }

@@ -70,7 +70,7 @@ module _ {S : Type 0} (Answers : S → List ℕ → List ℕ → S → Type 0) (
     all_lines : (given : GivesLine (Ok false) held holds left rest line) → lines_of (so_far.text ++ given.0) ≡ so_far.lines ++ lines_of line
     all_lines given = so_far.cut given.0 ∙ ap (λ (some : List ℕ). so_far.lines ++ lines_of some) given.3
 
-    module _ {E : Type 0} (Refuses : S → List ℕ → E → Type 0) (Unread : InputError → E → Type 0) (Unwritten : Error → E → Type 0) where
+    module _ {E : Type 0} (Refuses : S → List ℕ → E → S → Type 0) (Unread : InputError → E → Type 0) (Unwritten : Error → E → Type 0) where
       -- the last line, if there is one
       pub IsAnswered-ends : (last : List (List ℕ)) (new : S) (out : Option (List ℕ)) → GivesLine (Ok false) held holds left rest line → lines_of line ≡ last
           → (answer : List ℕ) × AnswersLines Answers last mid answer new × Appends written out answer
@@ -89,40 +89,49 @@ module _ {S : Type 0} (Answers : S → List ℕ → List ℕ → S → Type 0) (
             refl,
           )
 
-      stops_behind : (read : List ℕ) (out : Option (List ℕ)) (why : E) → Consumes left rest read
-          → StopsBehind (line_by_line Answers Refuses Unread Unwritten) (so_far.text ++ read) so_far.lines mid (change written out) why
-          → AnswersSome (line_by_line Answers Refuses Unread Unwritten) first had rest (change old out) why
-      stops_behind read out why lost stops = record {
-        text = so_far.text ++ read;
-        lines = so_far.lines;
-        last = mid;
-        answers = so_far.answers;
-        between = written;
-        read = Consumes-trans had left rest so_far.text read so_far.read lost;
-        takes = so_far.answered;
-        written = so_far.written;
-        stops = stops;
-      }
+      -- the talk stopped in this state
+      abbrev pub StopsIn : (out : Option (List ℕ)) (why : E) → S → Type 0
+      StopsIn out why ended =
+          (some : AnswersSome (line_by_line Answers Refuses Unread Unwritten) first had rest (change old out) why) × (some.ended ≡ ended)
+
+      stops_behind : (read : List ℕ) (out : Option (List ℕ)) (why : E) (ended : S) → Consumes left rest read
+          → StopsBehind (line_by_line Answers Refuses Unread Unwritten) (so_far.text ++ read) so_far.lines mid ended (change written out) why
+          → StopsIn out why ended
+      stops_behind read out why ended lost stops = (
+        record {
+          text = so_far.text ++ read;
+          lines = so_far.lines;
+          last = mid;
+          ended = ended;
+          answers = so_far.answers;
+          between = written;
+          read = Consumes-trans had left rest so_far.text read so_far.read lost;
+          takes = so_far.answered;
+          written = so_far.written;
+          stops = stops;
+        },
+        refl,
+      )
 
       -- no line was read
       pub IsAnswered-unread : (error : InputError) (why : E) → Unread error why → GivesLine (Err error) held holds left rest line
-          → AnswersSome (line_by_line Answers Refuses Unread Unwritten) first had rest (change old written) why
+          → StopsIn written why mid
       IsAnswered-unread error why is given =
           let last = reads-no-more error held holds left rest line so_far.text so_far.lines so_far.cut given in
-          stops_behind last.0 written why last.1 (inr (error, is, last.2, refl))
+          stops_behind last.0 written why mid last.1 (inr (error, is, last.2, refl, refl))
 
       -- a line was not answered
-      pub IsAnswered-stops : (out : Option (List ℕ)) (why : E) → GivesLine (Ok true) held holds left rest line → StopsAtLine (line_by_line Answers Refuses Unread Unwritten) line mid written out why
-          → AnswersSome (line_by_line Answers Refuses Unread Unwritten) first had rest (change old out) why
-      IsAnswered-stops out why given stops =
-          stops_behind given.0 out why given.1 (inl (line, (lines_of holds, so_far.cut given.0 ∙ next-line line holds so_far.lines (held ++ given.0) given.2 given.3), stops))
+      pub IsAnswered-stops : (out : Option (List ℕ)) (why : E) (ended : S) → GivesLine (Ok true) held holds left rest line
+          → StopsAtLine (line_by_line Answers Refuses Unread Unwritten) line mid ended written out why → StopsIn out why ended
+      IsAnswered-stops out why ended given stops =
+          stops_behind given.0 out why ended given.1 (inl (line, (lines_of holds, so_far.cut given.0 ∙ next-line line holds so_far.lines (held ++ given.0) given.2 given.3), stops))
 
       -- the last line was not answered
-      pub IsAnswered-stops_last : (out : Option (List ℕ)) (why : E) → GivesLine (Ok false) held holds left rest line
-          → lines_of line ≡ line ∷ [] → StopsAtLine (line_by_line Answers Refuses Unread Unwritten) line mid written out why
-          → AnswersSome (line_by_line Answers Refuses Unread Unwritten) first had rest (change old out) why
-      IsAnswered-stops_last out why given one stops =
-          stops_behind given.0 out why given.1
+      pub IsAnswered-stops_last : (out : Option (List ℕ)) (why : E) (ended : S) → GivesLine (Ok false) held holds left rest line
+          → lines_of line ≡ line ∷ [] → StopsAtLine (line_by_line Answers Refuses Unread Unwritten) line mid ended written out why
+          → StopsIn out why ended
+      IsAnswered-stops_last out why ended given one stops =
+          stops_behind given.0 out why ended given.1
           (inl (line, ([], all_lines given ∙ ap (λ (more : List (List ℕ)). so_far.lines ++ more) one ∙ sym (append-nil (so_far.lines ++ line ∷ []))), stops))
 
 -- ---- what is seen of a talk
@@ -133,7 +142,7 @@ pub record IsSeen {S T E : Type 0} (talk : Talking S E) (shown : Talking T E) (s
   pub line : (lines : List (List ℕ)) (answers : List ℕ) (last : S) → talk.Takes lines first answers last
       → (line answer : List ℕ) (next : S) → talk.Takes (line ∷ []) last answer next → shown.Takes (line ∷ []) (seen last) answer (seen next)
   pub refuses : (lines : List (List ℕ)) (answers : List ℕ) (last : S) → talk.Takes lines first answers last → (line : List ℕ) (why : E)
-      → talk.Refuses last line why → shown.Refuses (seen last) line why
+      (ended : S) → talk.Refuses last line why ended → shown.Refuses (seen last) line why (seen ended)
   pub unread : (error : InputError) (why : E) → talk.Unread error why → shown.Unread error why
   pub unwritten : (error : Error) (why : E) → talk.Unwritten error why → shown.Unwritten error why
 
@@ -154,22 +163,26 @@ module _ {S T E : Type 0} {talk : Talking S E} {shown : Talking T E} {seen : S �
   AnswersAll-seen all =
       record { text = all.text; last = seen all.last; answers = all.answers; read = all.read; takes = is.takes (lines_of all.text) all.answers all.last all.takes; written = all.written }
 
-  StopsBehind-seen : (lines : List (List ℕ)) (answers : List ℕ) (last : S) → talk.Takes lines first answers last
-      → (text : List ℕ) (output : Change (Option (List ℕ))) (why : E) → StopsBehind talk text lines last output why → StopsBehind shown text lines (seen last) output why
-  StopsBehind-seen lines answers last takes text output why (inl (line, begins, inl (refuses, same))) = inl (line, begins, inl (is.refuses lines answers last takes line why refuses, same))
-  StopsBehind-seen lines answers last takes text output why (inl (line, begins, inr (error, failed, next, answer, more, prefix))) =
-      inl (line, begins, inr (error, is.unwritten error why failed, seen next, answer, is.line lines answers last takes line answer next more, prefix))
-  StopsBehind-seen lines answers last takes text output why (inr (error, failed, no_more, same)) = inr (error, is.unread error why failed, no_more, same)
+  pub StopsBehind-seen : (lines : List (List ℕ)) (answers : List ℕ) (last ended : S) → talk.Takes lines first answers last
+      → (text : List ℕ) (output : Change (Option (List ℕ))) (why : E) → StopsBehind talk text lines last ended output why
+      → StopsBehind shown text lines (seen last) (seen ended) output why
+  StopsBehind-seen lines answers last ended takes text output why (inl (line, begins, inl (refuses, same))) =
+      inl (line, begins, inl (is.refuses lines answers last takes line why ended refuses, same))
+  StopsBehind-seen lines answers last ended takes text output why (inl (line, begins, inr (error, failed, answer, more, prefix))) =
+      inl (line, begins, inr (error, is.unwritten error why failed, answer, is.line lines answers last takes line answer ended more, prefix))
+  StopsBehind-seen lines answers last ended takes text output why (inr (error, failed, no_more, same, stays)) =
+      inr (error, is.unread error why failed, no_more, same, ap seen stays)
 
-  pub AnswersSome-seen : (why : E) → AnswersSome talk first had left (change old new) why → AnswersSome shown (seen first) had left (change old new) why
+  abbrev pub AnswersSome-seen : (why : E) → AnswersSome talk first had left (change old new) why → AnswersSome shown (seen first) had left (change old new) why
   AnswersSome-seen why some = record {
     text = some.text;
     lines = some.lines;
     last = seen some.last;
+    ended = seen some.ended;
     answers = some.answers;
     between = some.between;
     read = some.read;
     takes = is.takes some.lines some.answers some.last some.takes;
     written = some.written;
-    stops = StopsBehind-seen some.lines some.answers some.last some.takes some.text (change some.between new) why some.stops;
+    stops = StopsBehind-seen some.lines some.answers some.last some.ended some.takes some.text (change some.between new) why some.stops;
   }

@@ -118,7 +118,7 @@ AnswersLine bytes old line answer new = DoesLine (asked_of line) old answer new 
 -- The talk of a debugger of the stream of these bytes.
 abbrev pub debugging : (bytes : List ℕ) → Talking Seat DebugError
 debugging bytes =
-    line_by_line (AnswersLine bytes) (λ at line why. why ≡ NoMemory) (λ error why. why ≡ Input error) (λ error why. why ≡ Output error)
+    line_by_line (AnswersLine bytes) (λ at line why ended. why ≡ NoMemory) (λ error why. why ≡ Input error) (λ error why. why ≡ Output error)
 
 -- The stream that an input had was debugged, by all lines that a reader had.
 abbrev pub Debugs : (stream rest had left old new : Option (List ℕ)) → Type 0

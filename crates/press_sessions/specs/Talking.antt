@@ -10,11 +10,11 @@ use Rattle.press_files.specs.Inputs.{ReadWhole}
 use Rattle.press_sessions.specs.LineReading.{ReadsNoMore}
 use Rattle.press_words.specs.Lines.{BeginsWith}
 
--- What is said of a talk: how it takes lines in order, from one state to another, with their answers; why a line has no answer; and what
--- is told where lines cannot be read, and where an answer cannot be written.
+-- What is said of a talk: how it takes lines in order, from one state to another, with their answers; why a line has no answer, and which
+-- state that leaves; and what is told where lines cannot be read, and where an answer cannot be written.
 pub record Talking (S E : Type 0) : Type 1 where
   pub Takes : (lines : List (List ℕ)) → (old : S) → (answers : List ℕ) → (new : S) → Type 0
-  pub Refuses : S → (line : List ℕ) → E → Type 0
+  pub Refuses : S → (line : List ℕ) → E → S → Type 0
   pub Unread : InputError → E → Type 0
   pub Unwritten : Error → E → Type 0
 
@@ -25,7 +25,7 @@ AnswersLines {S} Answers (line ∷ lines) old answers new =
     (answer others : List ℕ) × (next : S) × Answers old line answer next × AnswersLines Answers lines next others new × (answers ≡ answer ++ others)
 
 -- the talk that answers each line so
-abbrev pub line_by_line : {S E : Type 0} (Answers : S → List ℕ → List ℕ → S → Type 0) (Refuses : S → List ℕ → E → Type 0)
+abbrev pub line_by_line : {S E : Type 0} (Answers : S → List ℕ → List ℕ → S → Type 0) (Refuses : S → List ℕ → E → S → Type 0)
     (Unread : InputError → E → Type 0) (Unwritten : Error → E → Type 0)
     → Talking S E
 line_by_line Answers Refuses Unread Unwritten =
@@ -48,26 +48,27 @@ caused talk Unreads Unwrites = record talk {
 }
 
 -- What was written of the answer of a line at which a talk stopped: nothing, where it has none; or a prefix of it, where a write failed.
-abbrev pub StopsAtLine : {S E : Type 0} (talk : Talking S E) (line : List ℕ) → S → (old new : Option (List ℕ)) → E → Type 0
-StopsAtLine {S} talk line at old new why =
-    (talk.Refuses at line why × (new ≡ old))
-    ⊎ ((error : Error) × talk.Unwritten error why × (next : S) × (answer : List ℕ) × talk.Takes (line ∷ []) at answer next × AppendsPrefix old new answer)
+abbrev pub StopsAtLine : {S E : Type 0} (talk : Talking S E) (line : List ℕ) → (at ended : S) → (old new : Option (List ℕ)) → E → Type 0
+StopsAtLine talk line at ended old new why =
+    (talk.Refuses at line why ended × (new ≡ old))
+    ⊎ ((error : Error) × talk.Unwritten error why × (answer : List ℕ) × talk.Takes (line ∷ []) at answer ended × AppendsPrefix old new answer)
 
--- Why it stopped behind these lines of a text: at the next one, or where lines are read.
-abbrev pub StopsBehind : {S E : Type 0} (talk : Talking S E) (text : List ℕ) (lines : List (List ℕ)) → S → Change (Option (List ℕ)) → E → Type 0
-StopsBehind talk text lines at output why =
-    ((line : List ℕ) × BeginsWith text (lines ++ line ∷ []) × StopsAtLine talk line at output.before output.after why)
-    ⊎ ((error : InputError) × talk.Unread error why × ReadsNoMore error text lines × (output.after ≡ output.before))
+-- Why it stopped behind these lines of a text, and in which state: at the next one, or where lines are read.
+abbrev pub StopsBehind : {S E : Type 0} (talk : Talking S E) (text : List ℕ) (lines : List (List ℕ)) → (at ended : S) → Change (Option (List ℕ)) → E → Type 0
+StopsBehind talk text lines at ended output why =
+    ((line : List ℕ) × BeginsWith text (lines ++ line ∷ []) × StopsAtLine talk line at ended output.before output.after why)
+    ⊎ ((error : InputError) × talk.Unread error why × ReadsNoMore error text lines × (output.after ≡ output.before) × (ended ≡ at))
 
--- The first lines of what was read were answered, and their answers written; and why the talk stopped behind them, and what was written
--- then.
+-- The first lines of what was read were answered, and their answers written; and why the talk stopped behind them, in which state, and what
+-- was written then.
 pub record AnswersSome {S E : Type 0} (talk : Talking S E) (first : S) (had left : Option (List ℕ)) (output : Change (Option (List ℕ))) (why : E) : Type 0 where
   pub text : List ℕ
   pub lines : List (List ℕ)
   pub last : S
+  pub ended : S
   pub answers : List ℕ
   pub between : Option (List ℕ)
   pub read : Consumes had left text
   pub takes : talk.Takes lines first answers last
   pub written : Appends output.before between answers
-  pub stops : StopsBehind talk text lines last (change between output.after) why
+  pub stops : StopsBehind talk text lines last ended (change between output.after) why

@@ -202,7 +202,7 @@ impl<F: Fn(&View<'_>) -> bool + Drop> Talk for DebugSession<F> {
         (seat old.debugger.stepper old.debugger.breaks) answer
         (seat new.debugger.stepper new.debugger.breaks) };
 
-    ghost refuses = { λ at line why. why ≡ NoMemory };
+    ghost refuses = { λ at line why next. why ≡ NoMemory };
 
     fn answer(&mut self, line: &[u8]) -> Result<Vec<u8>, DebugError> {
         Ok(self.carry_out(line)?)

@@ -5,8 +5,10 @@ mod debugger_lines;
 mod debugging;
 mod event_lines;
 mod line_reader;
+mod session;
+mod session_error;
 mod sessions;
 mod talking;
 
 pub use debugging::debug_lines;
-pub use sessions::press_lines;
+pub use sessions::{Played, press_lines};

@@ -16,8 +16,10 @@ pub returns-clause-err : goal.returns-clause-err
 returns-clause-err g c =
     let stream = c.in_ok-debugger.ensures.stream in
     IfErr-weaker c.answer_lines.result _ _
-    (StopsDebugging-some (λ session. session.debugger.stepper) (λ session. session.debugger.breaks) _ _ _ _ _ _ _
+    (λ why some.
+    StopsDebugging-some (λ session. session.debugger.stepper) (λ session. session.debugger.breaks) _ _ _ _ _ _ _
     stream.0 stream.1 stream.2 c.in_ok-debugger.ensures.breaks _
     (failures (ReadFails (g.R.ReadDevice.failed c.answer_lines.new.reader) (g.R.ReadDevice.reads c.answer_lines.new.reader)) (ReadFails (g.I.ReadDevice.failed c.opened.new.input) (g.I.ReadDevice.reads c.opened.new.input))
-    (g.W.WriteDevice.failed c.answer_lines.new.out ≡ true) ⊥))
+    (g.W.WriteDevice.failed c.answer_lines.new.out ≡ true) ⊥)
+    why some.0)
     c.answer_lines.ensures.err

@@ -11,7 +11,6 @@ returns-in_err-write_flushed-clause-err g c =
     (inr (
       c.in_err-write_flushed.field-0.0,
       (p.2, c.in_err-write_flushed.ensures.cause),
-      c.answer.new.self,
       answer,
       AnswersLines-one g.T.Talk.answers c.args.line.now c.args.talk.now answer c.answer.new.self c.in_ok-answer.ensures.ok,
       rw c.deref.ensures.value at c.in_err-write_flushed.ensures.written,

@@ -49,7 +49,7 @@ returns-in_err-answer_line-clause-err g c =
     rw (exit-is c.from_residual-in_err-answer_line.ensures.1)
     (IsAnswered-stops g.T.Talk.answers c.args.talk.now _ _ _ (held c.loop-line.lines) c.loop-line.talk _ _ (held c.next.new.self)
     c.next.new.line.items c.loop-line.invariant.answered _ _ _ (g.W.WriteDevice.contents c.answer_line.new.out)
-    c.in_err-answer_line.field-0.0
+    c.in_err-answer_line.field-0.0 c.answer_line.new.talk
     (subst P c.if-branch.true c.in_ok-next.ensures.line) (rw c.deref.ensures.value at c.in_err-answer_line.ensures.err))
 
 pub returns-then-is_empty-clause-ok : goal.returns-then-is_empty-clause-ok
@@ -86,7 +86,7 @@ returns-clause-err g c =
     IfErr-weaker c.answer_line-2.result _ _
     (λ why.
     IsAnswered-stops_last g.T.Talk.answers c.args.talk.now _ _ _ (held c.loop-line.lines) c.loop-line.talk _ _ (held c.next.new.self)
-    c.next.new.line.items c.loop-line.invariant.answered _ _ _ (g.W.WriteDevice.contents c.answer_line-2.new.out) why
+    c.next.new.line.items c.loop-line.invariant.answered _ _ _ (g.W.WriteDevice.contents c.answer_line-2.new.out) why c.answer_line-2.new.talk
     given (one-line c.next.new.line.items given.2 (rw c.next.new.line.ok.0 at (sym c.is_empty.ensures ∙ c.if-is_empty.false))))
     (rw c.deref-2.ensures.value at c.answer_line-2.ensures.err)
 

@@ -1,7 +1,7 @@
 use Rattle.std.proofs.Common.{refl}
 use Rattle.std.proofs.lemmas.Result.{IfOk-weaker}
 use Rattle.press_core.specs.Events.{TurnOn, Operator}
-use Rattle.press_sessions.proofs.sessions.Session.happen.Goals as goal
+use Rattle.press_sessions.proofs.session.Session.happen.Goals as goal
 
 pub returns-in-Turn-clause-ok : goal.returns-in-Turn-clause-ok
 returns-in-Turn-clause-ok g c = rw c.in-Turn.is (IfOk-weaker c.carry_out.result _ _ (λ answer taken. (TurnOn c.in-Turn.engine c.in-Turn.most, (refl, refl), taken)) c.carry_out.ensures.ok)
