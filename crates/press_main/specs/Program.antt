@@ -29,7 +29,7 @@ use Rattle.press_sessions.specs.Sessions.{Plays, Stops}
 use Rattle.press_telling.specs.Telling.{output_text, Ended, Tells, as_line}
 use Rattle.press_forms.specs.Traced.{Tracing}
 use Rattle.press_words.specs.View.{AsksHelp}
-use Rattle.press_words.specs.Words.{Source, Standard, FileNamed, Made, Listed, SummedOf, FilesBy, Answered, AsText, DebuggedOf, TracedOf, PageTo, StreamTo, JobTo, Arguments, arguments}
+use Rattle.press_words.specs.Words.{Source, Standard, FileNamed, Made, Listed, SummedOf, FilesBy, SessionAsked, Answered, AsText, DebuggedOf, TracedOf, PageTo, StreamTo, JobTo, Arguments, arguments}
 
 -- A text was assembled into an output of this name, or not.
 abbrev pub Assembling : (fails : Failures) (name : Text) (status : ℕ) (told read : Change (Option (List ℕ))) (made : Change (Option (List MadeOutput))) → Type 0
@@ -54,14 +54,15 @@ Writing name status images edge =
     (MakesTheTicket name read.before read.after images made.before made.after)
     (λ why. StopsMakingJob name read.before read.after images made why × JobCause (making edge.fails) read.before read.after images why)
 
--- A session with a press of so many engines was played to its end, or stopped, with the files of its messages among these inputs.
-abbrev pub Playing : (engines status : ℕ) (inputs : Text → NamedInput) (edge : Edge) → Type 0
-Playing engines status inputs edge =
+-- A session with a press that is asked for so was played to its end, or stopped, with the files of its messages among these inputs.
+abbrev pub Playing : SessionAsked → (status : ℕ) (inputs : Text → NamedInput) (edge : Edge) → Type 0
+Playing asked status inputs edge =
     let read = edge.read in
     let written = edge.written in
+    let made = edge.made in
     Ended status edge.told.before edge.told.after told_of_session
-    (Plays engines inputs read.before read.after written.before written.after)
-    (Stops engines inputs (writing edge.fails) read written)
+    (Plays asked inputs read.before read.after written.before written.after made.before made.after)
+    (Stops asked inputs (record edge.fails { file = ⊥ }) read written made)
 
 -- A session with a debugger of the stream of an input came to the end of its lines, or stopped; 304 also where the input may be one that
 -- cannot be opened.
@@ -93,7 +94,7 @@ Makes (Listed prefix) inputs status edge = PrintsListing (writing edge.fails) st
 Makes (SummedOf prefix) inputs status edge = PrintsSums (writing edge.fails) status prefix edge.told edge.read edge.written × MakesNothing edge
 Makes (FilesBy prefix template) inputs status edge =
     PrintsFiles template prefix status (without_files edge) ⊎ PrintsNoFiles template status (without_files edge)
-Makes (Answered engines) inputs status edge = Playing engines status inputs edge × MakesNothing edge
+Makes (Answered asked) inputs status edge = Playing asked status inputs edge × (asked.template ≡ None → MakesNothing edge)
 Makes AsText inputs status edge = Disassembling edge.fails status edge.told edge.read edge.written × MakesNothing edge
 Makes (DebuggedOf prefix name) inputs status edge =
     Debugging (inputs name).IsMissing status (with_prefix prefix (inputs name).bytes) edge × MakesNothing edge

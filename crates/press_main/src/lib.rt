@@ -14,7 +14,7 @@ pub use press_files::{
 };
 pub use press_forms::{PagingError, asm_text, disasm_bytes, page_file, tell_trace};
 pub use press_jobs::write_files;
-pub use press_sessions::{debug_lines, press_lines};
+pub use press_sessions::{Played, debug_lines, press_lines};
 pub use press_telling::Teller;
-pub use press_words::{Input, Output, Refusal, Request, request_of};
+pub use press_words::{Input, Output, Refusal, Request, SessionRequest, request_of};
 pub use program::{Performed, run_words};

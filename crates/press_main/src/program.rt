@@ -286,12 +286,15 @@ fn make<
                 outputs: printed.outputs,
             }
         }
-        Output::Session(engines) => Performed {
-            status: press_lines(alloc, inputs, *engines, &mut reader, &mut out, err),
-            input: reader,
-            out,
-            outputs,
-        },
+        Output::Session(asked) => {
+            let played = press_lines(alloc, inputs, outputs, *asked, &mut reader, &mut out, err);
+            Performed {
+                status: played.status,
+                input: reader,
+                out,
+                outputs: played.outputs,
+            }
+        }
         Output::Text => Performed {
             status: disasm_bytes(alloc, &mut reader, &mut out, err),
             input: reader,

@@ -1,5 +1,5 @@
 -- What is written of bytes in memory, whatever names the reader and the writer have for them.
-use Rattle.std.proofs.Common.{◌≡◌, ℕ, Bool, true, List, [], Option, Some, None, ◌++◌, ◌⊎◌, refl, subst, inl, inr}
+use Rattle.std.proofs.Common.{◌≡◌, ℕ, Bool, true, List, [], Option, Some, None, ◌++◌, ◌⊎◌, refl, ap, subst, inl, inr}
 use Rattle.press_devices.specs.Reading.{ReadFails}
 use Rattle.press_sink.specs.Outputs.{MadeOutput}
 use Rattle.press_telling.specs.Telling.{Ended}
@@ -17,7 +17,7 @@ use Rattle.press_jobs.specs.Jobs.{TicketRefused}
 use Rattle.press_jobs.specs.declared.jobs.JobFileError.{JobFileError}
 use Rattle.press_forms.specs.declared.assembly.TextError.{TextError}
 use Rattle.press_memory.specs.Faults.{EndsBy, Tells, fault_of, job_number, text_number}
-use Rattle.press_memory.specs.Session.{PlayedSession, unknown_files}
+use Rattle.press_memory.specs.Session.{PlayedSession, session_asked, unknown_files}
 use Rattle.press_memory.specs.Written.{JobOf, Left, ListedBy, MayFail, SidesOf, StreamOf, TextOf, TraceOf, held_by_all, number_alone}
 
 -- what a reader and a writer are behind a call
@@ -72,19 +72,28 @@ text-of stream written had unread old new failed reads cut status fault same non
       had (Some stream) old (Some []) new (Some written) same none all text;
 }
 
-pub played-session : (engines : ℕ) (lines written : List ℕ) (had unread old new : Option (List ℕ)) (failed : Bool) (reads : ℕ) (cut : Bool) (status fault : ℕ)
-    → had ≡ Some lines → old ≡ Some [] → new ≡ Some written → Tells status fault
-    → Ended status None None told_of_session (Plays engines unknown_files had unread old new)
-    (Stops engines unknown_files (failures (ReadFails failed reads) ⊥ (cut ≡ true) ⊥) (change had unread) (change old new))
+pub played-session : (engines : ℕ) (lines written : List ℕ) (had unread old new : Option (List ℕ)) (made makes : List MadeOutput) (failed : Bool) (reads : ℕ) (cut : Bool)
+    (status fault : ℕ)
+    → had ≡ Some lines → old ≡ Some [] → new ≡ Some written → made ≡ [] → Some makes ≡ Some made → Tells status fault
+    → Ended status None None told_of_session (Plays (session_asked engines) unknown_files had unread old new (Some made) (Some makes))
+    (Stops (session_asked engines) unknown_files (failures (ReadFails failed reads) ⊥ (cut ≡ true) MayFail) (change had unread) (change old new) (change (Some made) (Some makes)))
     → PlayedSession engines lines fault written
-played-session engines lines written had unread old new failed reads cut status fault same none all tells plays = record {
+played-session engines lines written had unread old new made makes failed reads cut status fault same none all begun unmade tells plays = record {
   left = left_of unread failed reads cut;
   status = status;
   tells = tells;
   plays = renamed (λ had old new.
-      Ended status None None told_of_session (Plays engines unknown_files had unread old new)
-      (Stops engines unknown_files (failures (ReadFails failed reads) ⊥ (cut ≡ true) ⊥) (change had unread) (change old new)))
-      had (Some lines) old (Some []) new (Some written) same none all plays;
+      Ended status None None told_of_session (Plays (session_asked engines) unknown_files had unread old new (Some []) (Some []))
+      (Stops (session_asked engines) unknown_files (failures (ReadFails failed reads) ⊥ (cut ≡ true) MayFail) (change had unread) (change old new) (change (Some []) (Some []))))
+      had (Some lines) old (Some []) new (Some written) same none all
+      (subst (λ (before : Option (List MadeOutput)).
+      Ended status None None told_of_session (Plays (session_asked engines) unknown_files had unread old new before before)
+      (Stops (session_asked engines) unknown_files (failures (ReadFails failed reads) ⊥ (cut ≡ true) MayFail) (change had unread) (change old new) (change before before)))
+      (ap Some begun)
+      (subst (λ (after : Option (List MadeOutput)).
+      Ended status None None told_of_session (Plays (session_asked engines) unknown_files had unread old new (Some made) after)
+      (Stops (session_asked engines) unknown_files (failures (ReadFails failed reads) ⊥ (cut ≡ true) MayFail) (change had unread) (change old new) (change (Some made) after)))
+      unmade plays));
 }
 
 pub sides-of : (prefix stream written : List ℕ) (had unread : Option (List ℕ)) (before made : List MadeOutput) (failed : Bool) (reads status fault : ℕ)

@@ -6,6 +6,8 @@ use crate::memory_files::MemoryFiles;
 use crate::told::LastTold;
 use press_devices::Watched;
 use press_sessions::press_lines;
+use press_sink::ListOutputs;
+use press_words::SessionRequest;
 use std::alloc::Global;
 
 /// What is written in a session with a press of so many engines, by the lines of events, with the files of a block.
@@ -25,9 +27,24 @@ fn played(alloc: Global, engines: u64, inputs: &MemoryFiles<'_>, lines: &[u8]) -
     let mut reader = Watched::new(lines);
     let mut out = Watched::new(Vec::new(alloc));
     let mut told = LastTold::nothing();
-    let status = press_lines(alloc, inputs, engines, &mut reader, &mut out, &mut told);
+    let asked = SessionRequest {
+        engines,
+        template: None,
+        sums: false,
+        goes_on: false,
+    };
+    let outputs = ListOutputs::new(alloc);
+    let played = press_lines(
+        alloc,
+        inputs,
+        outputs,
+        asked,
+        &mut reader,
+        &mut out,
+        &mut told,
+    );
     Written {
-        fault: told.fault(status),
+        fault: told.fault(played.status),
         bytes: out.into_inner(),
     }
 }

@@ -1,6 +1,7 @@
 //! A session with a press, whose answers are flushed.
 use crate::program_devices::{Held, Reluctant};
-use press_main::{InputError, NamedInputs, press_lines};
+use press_main::{InputError, NamedInputs, SessionRequest, press_lines};
+use press_sink::ListOutputs;
 use std::test::Fail;
 
 /// Inputs of which none can be opened.
@@ -40,13 +41,28 @@ fn each_answer_is_flushed_before_more_is_read(rt: HostRuntime) -> Result<(), Fai
             fails,
         };
         let mut err = Vec::new(rt.alloc());
-        let status = press_lines(rt.alloc(), &NoInputs, 1, &mut reader, &mut out, &mut err);
+        let asked = SessionRequest {
+            engines: 1,
+            template: None,
+            sums: false,
+            goes_on: false,
+        };
+        let outputs = ListOutputs::new(rt.alloc());
+        let played = press_lines(
+            rt.alloc(),
+            &NoInputs,
+            outputs,
+            asked,
+            &mut reader,
+            &mut out,
+            &mut err,
+        );
         let wanted: (usize, &[u8]) = if fails {
             (0, b"fault output\n")
         } else {
             (3, b"fault 304\n")
         };
-        assert_eq!(rt; status, 1);
+        assert_eq!(rt; played.status, 1);
         assert_eq!(rt; (out.flushed, err.as_slice()), wanted);
     }
     Ok(())

@@ -11,7 +11,7 @@ pub returns-in-Files-clause-makes : goal.returns-in-Files-clause-makes
 returns-in-Files-clause-makes g c = rw (c.in-Files.is, ← c.deref-in-Files.ensures.value) c.print_files-printed.ensures.prints
 
 pub returns-in-Session-clause-makes : goal.returns-in-Session-clause-makes
-returns-in-Session-clause-makes g c = rw c.in-Session.is (c.press_lines.ensures.ended, refl)
+returns-in-Session-clause-makes g c = rw c.in-Session.is (c.press_lines-played.ensures.ended, c.press_lines-played.ensures.unmade)
 
 pub returns-in-Text-clause-makes : goal.returns-in-Text-clause-makes
 returns-in-Text-clause-makes g c = rw c.in-Text.is (c.disasm_bytes.ensures.ended, refl)
