@@ -17,7 +17,7 @@ _press() {
   elif [ "$first" = press ] && [ "${COMP_WORDS[COMP_CWORD-1]}" = --engines ]; then
     mapfile -t COMPREPLY < <(compgen -W "1 2 3 4" -- "$word")
   elif [ "$first" = press ] && [[ "$word" == -* ]]; then
-    mapfile -t COMPREPLY < <(compgen -W "--engines" -- "$word")
+    mapfile -t COMPREPLY < <(compgen -W "--engines --out --sums --keep-going" -- "$word")
   elif [ "$first" != press ]; then
     mapfile -t COMPREPLY < <(compgen -f -- "$word")
   fi

@@ -6,9 +6,9 @@ In the words `{folder}` is the name of the folder, and `{stream}` that of an ope
 
 from typing import NamedTuple
 
-from asked.files import TICKET, FILES
+from asked.files import FILES, SUBMISSION, TICKET
 from asked.full import ECHO
-from asked.jobs import DOT, job
+from asked.jobs import DOT, job, ticket
 from asked.pages import page
 
 FEED = b"\x0c"
@@ -23,6 +23,13 @@ PARTS = {f".press-{number}.part": OLDER for number in range(1, 1001)}
 MEMORY = "/dev/shm"  # a disk in memory, whose files are files as all others
 LONG_NAME = "n" * 250
 LIMIT = 100_000  # bytes of a file, where they are limited
+
+
+# a session of one entry, whose page is of an image of one dot, or of two pages
+SUBMIT = SUBMISSION
+SUBMIT_TWO = b'{"ID":"m","Type":"SubmitQueueEntry","Ticket":%s}' % ticket(NPage="2", Sides="")
+DOT_FILE, DOT_PAGE = FILES["dot"], page([(75, 0, 1, 1)])
+PLAYED = b"message ticket dot\nturn 100\n"
 
 
 class Link(NamedTuple):
@@ -52,6 +59,16 @@ class Row(NamedTuple):
 TAKEN = {"ticket": TICKET, "dot": FILES["dot"]}
 ROWS = [
     # an output that is an input
+    Row("a side of a session", "press --out %q-%d", {"ticket": SUBMIT, "dot": DOT_FILE}, {"Q1-1": DOT_PAGE}, given=PLAYED),
+    Row("in place of an older one", "press --out %q-%d", {"ticket": SUBMIT, "dot": DOT_FILE, "Q1-1": OLDER}, {"Q1-1": DOT_PAGE}, given=PLAYED),
+    Row("a side that is its message", "press --out %q-%d", {"Q1-1": SUBMIT, "dot": DOT_FILE}, {}, "fault 301", given=PLAYED.replace(b"ticket", b"Q1-1")),
+    Row("or its image, by another name", "press --out ./%q-%d", {"ticket": SUBMIT, "Q1-1": DOT_FILE}, {}, "fault 301", given=PLAYED.replace(b"dot", b"Q1-1")),
+    Row("a folder that is not there", "press --out no/%q-%d", {"ticket": SUBMIT, "dot": DOT_FILE}, {}, "fault 301", given=PLAYED),
+    Row("the name of a folder", "press --out %q-%d", {"ticket": SUBMIT, "dot": DOT_FILE, "Q1-1": FOLDER}, {}, "fault 301", given=PLAYED),
+    Row("a session does not go on behind a fault of a file", "press --keep-going --out %q-%d", {"ticket": SUBMIT, "dot": DOT_FILE, "Q1-1": FOLDER}, {}, "fault 301",
+        given=PLAYED * 2),
+    Row("the second of two sides of an entry", "press --out %q-%d", {"ticket": SUBMIT_TWO, "dot": DOT_FILE, "Q1-2": FOLDER}, {"Q1-1": DOT_PAGE}, "fault 301",
+        given=PLAYED.replace(b" dot", b" dot dot")),
     Row("a text that is its own output", "asm in in", {"in": TEXT}, {}, "fault 115"),
     Row("by another name", "asm in ./in", {"in": TEXT}, {}, "fault 115"),
     Row("by a link to it", "asm in out", {"in": TEXT, "out": Link("in")}, {}, "fault 115"),

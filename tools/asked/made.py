@@ -3,6 +3,7 @@
 from asked.files import TICKET, named
 from asked.jobs import DOT, FULL, asking, job
 from asked.pages import page
+from asked.sessions import submit
 
 # What stood in the file before: more than what is made in its place.
 OLDER = b"an older file\n" * 200_000
@@ -11,6 +12,9 @@ BOX = b"\x1b*p0x0Y\x1b*c3a2b0P\x1bE"
 TURNED = [b"\x1b&l%dO\x1b*p0x0Y\x1b*c3a2b0P\x0c" % orientation for orientation in (1, 2, 3)]
 # A macro that marks, moves and marks is executed: its steps are the twelfth to the fourteenth.
 MACRO = b"\x1b*p0x0Y\x1b*c3a2b\x1b&f1y0X\x1b*c0P\x1b*p+8X\x1b*c0P\x1b&f1x2X"
+
+# A ticket of one page is submitted. Its sheet comes behind the fifteenth of its nineteen steps.
+SUBMITTED = f"{submit(1)[0]}\n".encode()
 
 # Words, the file that they make, standard input, and what stands in the file then.
 MADE = [
@@ -39,6 +43,13 @@ MADE = [
     ("print - made%%d", "made%1", b"\x0c", page([])),
     ("print - made%dd%", "made1d%", b"\x0c", page([])),
     ("print - made%d", "made2", b"\x0c\x1b*p0x0Y\x1b*c3a2b0P\x0c", page([(75, 150, 3, 2)])),
+    ("press --out made%d-%q", "made1-Q1", SUBMITTED + b"turn 19\n", page([(75, 0, 1, 1)])),
+    ("press --out made%d-%q", "made1-Q1", SUBMITTED + b"turn 15\nabort\n", page([(75, 0, 1, 1)])),
+    ("press --out made%d-%q", "made1-Q1", SUBMITTED + b"turn 14\nturn 1\n", page([(75, 0, 1, 1)])),
+    ("press --out made%d-%q", "made1-Q2", SUBMITTED * 2 + b"turn 19\nturn 19", page([(75, 0, 1, 1)])),
+    ("press --out made%d-%q", "made1-Q1", SUBMITTED + b"turn 14\n", OLDER),
+    ("press --out made%d-%q", "made2-Q1", SUBMITTED + b"turn 19\n", OLDER),
+    ("press", "made1-Q1", SUBMITTED + b"turn 19\n", OLDER),
 ]
 
 # Words that are refused, the file that they would make, and standard input.

@@ -1,9 +1,11 @@
 """Sessions with a press: each kind of message at each status of an entry and of the queue, refusals, and turns between them."""
 
+import hashlib
 import json
 
 from asked.files import TICKET, named
 from asked.jobs import nested, ticket
+from asked.pages import page
 
 
 def text_of(value):
@@ -398,5 +400,43 @@ SESSIONS += [session(submit(1, text=ticket(**changes), images=("dot", "lines", "
                      sheets=[f"Q1 sheet {number} {side} 2550x3300 black {black}" for number, sides in enumerate(sheets, 1)
                              for side, black in zip(["front", "back"], sides)])
              for changes, commands, sheets in SETS]
+
+# ---- files of sides, digests, and lines that are wrong
+
+
+def told_with(pages, exchange):
+    """An exchange whose answer has lines of files in front of it."""
+    line, answer = exchange
+    return line, "\n".join([*(f"sheet {page}" for page in pages), answer])
+
+
+LINES = [(75, 2, 8, 2)]  # where the dots of that image lie on its page
+
+
+def digest(*marks):
+    """The end of a line of the listing with sums: the SHA-256 of the P4 file of a page with these marks."""
+    return f" sha256 {hashlib.sha256(page(list(marks))).hexdigest()}"
+
+
+MADE = "press --out made-%q-%d"
+WRONG = [(f"message {name}", "fault 304") for name in ("no/such", "/")]
+WRONG += [(" ".join(["message", named(text_of({"ID": "m", "Type": "SubmitQueueEntry", "Ticket": json.loads(TICKET)}).encode()), image]), f"fault {number}")
+          for image, number in (("no-image", 111), ("no-size", 112), ("cut", 113), ("no/such", 304))]
+SESSIONS += [
+    session(submit(1), told_with(["Q1 1 front made-Q1-1"], turn(ALL, "Q1", 19)), sheets=[SHEET], words=MADE),
+    session(submit(1), turn(14, "Q1", 14), told_with(["Q1 1 front made-Q1-1"], turn(1, "Q1", 1)), turn(1, "Q1", 1), sheets=[SHEET], words=MADE),
+    # sides are numbered among those of their entry, sheets too
+    session(submit(1, text=PAIR, images=IMAGES[:2]), submit(2), submit(3, text=ticket(Sides="", NPage="2"), images=IMAGES[:2]),
+            told_with(["Q1 1 front 1Q1", "Q1 1 back 2Q1"], turn(ALL, "Q1", PAIR_STEPS)),
+            told_with(["Q2 1 front 1Q2"], turn(ALL, "Q2", 19)),
+            told_with(["Q3 1 front 1Q3", "Q3 2 front 2Q3"], turn(ALL, "Q3", 30)),
+            sheets=[line for number, dots in ((1, [(1, 16)]), (2, [(1,)]), (3, [(1,), (16,)])) for lines in listed(number, dots) for line in lines],
+            words="press --out %d%q"),
+    session(submit(1), turn(ALL, "Q1", 19), sheets=[SHEET + digest((75, 0, 1, 1))], words="press --sums"),
+    session(submit(1, text=PAIR, images=IMAGES[:2]), told_with(["Q1 1 front made-Q1-1", "Q1 1 back made-Q1-2"], turn(ALL, "Q1", PAIR_STEPS)),
+            sheets=[line + end for line, end in zip(listed(1, [(1, 16)])[0], (digest((75, 0, 1, 1)), digest(*LINES)))], words=f"{MADE} --sums"),
+    # a line that is wrong changes nothing
+    session(submit(1), *WRONG, ("turn 1 1", "fault 702"), device("Idle"), turn(1, "Q1", 1), *WRONG, turn(ALL, "Q1", 18), sheets=[SHEET], words="press --keep-going"),
+]
 
 ROWS = SESSIONS

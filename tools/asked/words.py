@@ -8,7 +8,7 @@ SUMMED_A4 = "sheet 1 front 2480x3507 black 0 sha256 2509944b08e5e14b7637a5a2f5d7
 SUMS_OF_SIDES = (b"sheet 1 front 2550x3300 black 6 sha256 9ccf383699e8494843ec08b326593eb5bacbbaabc4c7479cdce016854c6e5453\n"
                  b"sheet 1 back 2550x3300 black 8 sha256 df68d449507a1b1687852b74a45775feeeeaa448afc534d222950fb01fb9001f\n")
 USAGE = ("usage: press print IN OUT, press print --list IN, press asm IN OUT, press page IN K OUT or press write TICKET OUT [IMG...], "
-         "where OUT is a file and not - and K is a number, press debug IN, where IN is a file and not -, or press press [--engines N], where N is a number\n")
+         "where OUT is a file and not - and K is a number, press debug IN, where IN is a file and not -, or press press [--engines N] [--out TEMPLATE] [--sums] [--keep-going], where N is a number\n")
 
 NO_DEFAULT = ("error: --default {} is no NAME=VALUE of the job language, as RESOLUTION=600: COPIES=1 to 999, PAPER=LETTER, LEGAL, A4, EXECUTIVE, LEDGER or A3, "
               "ORIENTATION=PORTRAIT or LANDSCAPE, DUPLEX=OFF or ON, BINDING=LONGEDGE or SHORTEDGE, RESOLUTION=300 or 600\n")
@@ -92,6 +92,25 @@ ROWS = [
     ("press --engines 5", 1, "fault 701\n", b"pause\n"),
     ("press --engines 4294967297", 1, "fault 701\n", b"pause\n"),
     ("press --engines 18446744073709551615", 1, "fault 701\n", b"pause\n"),
+    ("press --engines 5 --out made", 1, "fault 701\n", b"pause\n"),
+    ("press --out made-%q-%d", 0, "ok\n", b"pause\n"),
+    ("press --out %d%q", 0, "turn - 0\n", b"turn 1"),
+    ("press --out=%q%d", 0, "what?\n", FEED),
+    ("press --out made", 1, "fault 121\n", b"pause\n"),
+    ("press --out made-%d", 1, "fault 121\n", b"pause\n"),
+    ("press --out made-%q", 1, "fault 121\n", b"pause\n"),
+    ("press --out %d-%q-%d", 1, "fault 121\n", b"pause\n"),
+    ("press --out %q-%d-%d", 1, "fault 121\n", b"pause\n"),
+    ("press --out %d-%d-%q", 1, "fault 121\n", b"pause\n"),
+    ("press --out %q-%d-%q", 1, "fault 121\n", b"pause\n"),
+    ("press --out %Q-%D", 1, "fault 121\n", b"pause\n"),
+    ("press --out %%qd", 1, "fault 121\n", b"pause\n"),
+    ("press --sums", 0, "ok\n", b"pause\n"),
+    ("press --keep-going", 0, "ok\nfault 304\nok\n", b"pause\nmessage no/such\ncontinue\n"),
+    ("press --keep-going", 0, "fault 304\nwhat?\n", b"message /\nmessage\n"),
+    ("press --keep-going", 0, "fault 702\nfault 702\nturn - 0\n", b"turn 1 1\nturn 0 7\nturn 1"),
+    ("press --keep-going --engines 2", 0, "ok\nfault 702\nturn - 0\n", b"pause\nturn 1 2\nturn 1 1\n"),
+    ("press --keep-going --engines 0", 1, "fault 701\n", b"pause\n"),
     ("--help", 0, None, FEED),
     ("help", 0, None, FEED),
     ("--version", 0, "press 1.0.0 (proved by rattle-kit-13f)\n", FEED),
@@ -115,6 +134,11 @@ ROWS = [
     ("press --engines 18446744073709551616", 2, None, FEED),
     ("press --engines 2 2", 2, None, FEED),
     ("press --engines 2 --engines 2", 2, None, FEED),
+    ("press --out", 2, None, FEED),
+    ("press --out a%q%d --out b%q%d", 2, None, FEED),
+    ("press --sums --sums", 2, None, FEED),
+    ("press --keep-going=yes", 2, None, FEED),
+    ("press --list", 2, None, FEED),
     ("debug -", 2, USAGE, FEED),
     ("asm - -", 2, USAGE, FEED),
     ("asm b -", 2, USAGE, FEED),

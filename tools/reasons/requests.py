@@ -112,7 +112,11 @@ def judge_debug(request, chosen):
 def judge_press(request, chosen):
     if not 1 <= request.engines <= MOST_ENGINES:
         raise Found(BAD_ENGINES, f"--engines asks for {counted(request.engines, 'engine')}", f"A press has 1 to {MOST_ENGINES} engines")
-    yield from sessions.findings(files.read_input("-", "IN"), request.engines, chosen)
+    if request.template is not None:
+        wrong = [f"{mark} {counted(request.template.count(mark), 'time')}" for mark in ("%q", "%d") if request.template.count(mark) != 1]
+        if wrong:
+            raise Found(BAD_TEMPLATE, f"The template {request.template} has {' and '.join(wrong)}", "Each stands once, as in page-%q-%d.pbm")
+    yield from sessions.findings(files.read_input("-", "IN"), request.engines, chosen, request.goes_on)
 
 
 JUDGES = {"print": judge_print, "asm": judge_asm, "disasm": judge_disasm, "debug": judge_debug, "trace": judge_trace, "page": judge_page,

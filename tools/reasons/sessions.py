@@ -26,9 +26,9 @@ CODES = {
 }
 
 
-def findings(script, engines, chosen=program.PROGRAM):
-    """The findings on the lines of a session on so many engines, in order; the last one may end it."""
-    answers = answers_of(script, engines, chosen)
+def findings(script, engines, chosen=program.PROGRAM, goes_on=False):
+    """The findings on the lines of a session on so many engines, in order; the last one may end it, unless it goes on behind lines that are wrong."""
+    answers = answers_of(script, engines, chosen, goes_on)
     for number, line in enumerate(press_lines.lines_of(script), 1):
         shown = f"line {number}"
         words = line.split(b" ")
@@ -37,12 +37,18 @@ def findings(script, engines, chosen=program.PROGRAM):
                 asked = files_of(shown, [word.decode("utf-8", "surrogateescape") for word in words[1:]])
             except Found as found:
                 yield found.finding
-                return
+                if not goes_on:
+                    return
+                next(answers, b"")
+                continue
         missing = missing_engine(words, engines)
         if missing is not None:
             yield Finding(NO_ENGINE, f"{shown} names engine {missing}, and the press has {counted(engines, 'engine')}",
                           "Engines are counted from 0; --engines N asks for more of them")
-            return
+            if not goes_on:
+                return
+            next(answers, b"")
+            continue
         answer = next(answers, b"")
         if answer == b"what?" or (words[0] == b"message" and not all(words)):
             yield Finding(None, f"{shown} is none of a session: '{line.decode(errors='replace')[:60]}'", advice_for(line))
@@ -57,9 +63,9 @@ def missing_engine(words, engines):
     return numbers[1] if turn and numbers[1] >= engines else None
 
 
-def answers_of(script, engines, chosen):
+def answers_of(script, engines, chosen, goes_on):
     """The answers of the program."""
-    words = ["--engines", str(engines)] if engines > 1 else []
+    words = (["--engines", str(engines)] if engines > 1 else []) + (["--keep-going"] if goes_on else [])
     return iter(program.ask(["press", *words], script, chosen).stdout.split(b"\n"))
 
 

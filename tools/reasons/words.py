@@ -20,7 +20,8 @@ USAGES = {
     "press": [],
 }
 LISTS = ("--list", "--sums")
-OPTIONS = {"print": "--list] [--sums", "press": "--engines N"}
+OPTIONS = {"print": "--list] [--sums", "press": "--engines N] [--out TEMPLATE] [--sums] [--keep-going"}
+FLAGS = {"print": LISTS, "press": ("--sums", "--keep-going")}
 HELP = ("-h", "--help", "help", "-V", "--version")
 
 
@@ -33,6 +34,8 @@ class Request(NamedTuple):
     listed: bool = False
     engines: int = 1
     defaults: tuple = ()   # words NAME=VALUE
+    template: str | None = None
+    goes_on: bool = False
 
 
 def usage(what):
@@ -64,18 +67,32 @@ def request_of(words):
     return request_of_rest(what, words[1:])
 
 
-def engines_of(rest):
-    """The number of engines that the words ask for, and the words without it."""
+def value_of(option, rest):
+    """The value of an option in the words, empty where none stands behind it, or None where it stands nowhere; and the words without it."""
     for place, word in enumerate(rest):
         if word == "--":
             break
-        if word == "--engines" or word.startswith("--engines="):
-            spelled, behind = (word[len("--engines="):], place + 1) if "=" in word else (" ".join(rest[place + 1:place + 2]), place + 2)
-            number = number_of(spelled.encode())
-            if number is None:
-                refuse(f"--engines asks for {spelled or 'nothing'}, and not for a number", usage("press"))
-            return number, rest[:place] + rest[behind:]
-    return 1, rest
+        if word == option or word.startswith(option + "="):
+            value, behind = (word[len(option) + 1:], place + 1) if "=" in word else (" ".join(rest[place + 1:place + 2]), place + 2)
+            return value, rest[:place] + rest[behind:]
+    return None, rest
+
+
+def engines_of(rest):
+    """The number of engines that the words ask for, and the words without it."""
+    spelled, rest = value_of("--engines", rest)
+    number = 1 if spelled is None else number_of(spelled.encode())
+    if number is None:
+        refuse(f"--engines asks for {spelled or 'nothing'}, and not for a number", usage("press"))
+    return number, rest
+
+
+def template_of(rest):
+    """The template of files that the words ask for, and the words without it."""
+    template, rest = value_of("--out", rest)
+    if template == "":
+        refuse("--out asks for nothing", usage("press"))
+    return template, rest
 
 
 def pair_of(word):
@@ -104,20 +121,21 @@ def defaults_of(what, rest):
 def request_of_rest(what, rest):
     names, listed, options = [], set(), True
     chosen, rest = defaults_of(what, rest) if what in WITH_DEFAULTS else ((), rest)
-    engines, rest = engines_of(rest) if what == "press" and what in OPTIONS else (1, rest)
+    engines, rest = engines_of(rest) if what == "press" else (1, rest)
+    template, rest = template_of(rest) if what == "press" else (None, rest)
     for word in rest:
         if options and word == "--":
             options = False
         elif options and word in ("-h", "--help"):
             return None
-        elif options and word in LISTS and what == "print" and word not in listed:
+        elif options and word in FLAGS.get(what, ()) and word not in listed:
             listed.add(word)
         elif options and word.startswith("-") and word != "-":
             refuse(f"{word} stands twice" if word in listed else f"{word} is no option of {what}", usage(what))
         else:
             names.append(word)
     check_count(what, names, listed)
-    return Request(what, names, bool(listed), engines, chosen)
+    return Request(what, names, bool(listed), engines, chosen, template, "--keep-going" in listed)
 
 
 def check_count(what, names, listed):

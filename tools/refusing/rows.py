@@ -61,6 +61,7 @@ ROWS = [
     Row("a text that is assembled", ["asm", "-", "stream"], b"par *p10X\npar *b2W 02F0\nesc E\n; a remark\ntxt 41\n"),
     Row("commands that are told", ["disasm", "-"], b"\x1b*p10x20Y\x1bE\x1b*b2W\x02\xf0text\x0c"),
     Row("a job that is printed by turns", ["press"], SUBMISSION + b"turn 3\npause\nturn 9\ncontinue\nturn 100000\n", 7),
+    Row("a job whose sides are made files", ["press", "--out", "page-%q-%d.pbm", "--sums"], SUBMISSION + b"turn 3\nturn 100000\n", 340),
     Row("messages that are refused", ["press"], b"message examples/messages/hold-1.json\nturn 1\nwhat\nturn\n", 4),
     Row("a debugger", ["debug", "examples/streams/letterhead-and-stamps.pcl"], b"go 20\nstep\nover\nover\ngo 100\nstep\ngo 1000\n", 7),
     Row("lines of a debugger", ["debug", "examples/streams/small-box.pcl"], b"break par *cP\nclear 0\nclear 0\nrecent\nfoo\n", 4),
@@ -84,4 +85,6 @@ def write_faults(row):
     """What is told where a write fails: standard output, or the file that the words make."""
     if row.words[0] == "print" and "--list" not in row.words:
         return {"301"} if FORM_FEED in row.given else {"302"}
+    if "--out" in row.words:
+        return {"301", "output"}
     return {"asm": {"115"}, "page": {"115"}, "write": {"614"}}.get(row.words[0], {"output"})
