@@ -3,6 +3,7 @@ pub mod TurnedLemmas
 pub mod BlockLemmas
 pub mod LineLemmas
 pub mod FrameLemmas
+mod CatchLemmas
 pub mod ColumnLemmas
 mod StripLemmas
 pub mod worked

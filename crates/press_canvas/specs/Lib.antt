@@ -2,3 +2,4 @@
 pub mod Turned
 pub mod Block
 pub mod Strip
+pub mod Changes

@@ -1,15 +1,16 @@
 //! The page that marks are made on.
 
-ghost use Rattle.std.specs.Prelude.{◌≡◌, true, IfOk, IfSome};
+ghost use Rattle.std.specs.Prelude.{◌≡◌, true, IfOk, IfSome, MatchOption, OnErr, OnOk};
 ghost use Rattle.std.specs.Borrow.{Lends, sem};
-ghost use Rattle.press_bits.specs.Page.{blank, is_page_size};
-ghost use Rattle.press_canvas.specs.Turned.{frame_page};
+ghost use Rattle.press_bits.specs.Page.{HasNoDotOutside, black_at, blank, is_page_size};
+ghost use Rattle.press_bits.specs.Patches.{AgreeBeside, ChangedIn};
+ghost use Rattle.press_canvas.specs.Turned.{extent, frame_page};
 ghost use Rattle.press_canvas.specs.contracts.canvas.Canvas.{the_row};
 ghost use Rattle.press_canvas.specs.contracts.frame.Frame.{the_row as frame_row};
 
 use crate::frame::Frame;
 use crate::turning::{turned, turned_size, white};
-use press_bits::Bitmap;
+use press_bits::{Bitmap, Region};
 use press_page::{Extent, Orientation};
 use std::alloc::{AllocError, Global};
 use std::marker::Model;
@@ -104,6 +105,71 @@ impl Canvas {
             Orientation::Portrait => Some(&self.frame.bitmap),
             _ => None,
         }
+    }
+
+    /// How many dots the page has.
+    pub fn extent(&self) -> Extent
+        ensures extent { result ≡ extent self.now }
+        ensures fits { is_page_size result.width result.height ≡ true }
+        ensures inside { HasNoDotOutside self.now }
+    {
+        self.frame.page_extent()
+    }
+
+    /// A white page of this size, which lies as this one does.
+    ///
+    /// # Errors
+    ///
+    /// Where memory ran out.
+    pub fn white(&self, alloc: Global) -> Result<Self, AllocError>
+        ensures { IfOk result (λ canvas. canvas ≡ blank self.now.width self.now.height) }
+    {
+        Canvas::blank(alloc, self.frame.orientation, self.extent())
+    }
+
+    /// Whether the dot at column `x` of line `y` of the page is black; `false` outside the page.
+    pub fn get(&self, x: u32, y: u32) -> bool
+        ensures { result ≡ black_at self.now x y }
+    {
+        self.frame.get(x, y)
+    }
+
+    /// Becomes another page of this size. The answer is the region in which they differed: none exactly where they were equal. Pages that
+    /// lie alike are compared as they lie.
+    ///
+    /// # Errors
+    ///
+    /// Where memory ran out; the page is then as it was.
+    pub fn catch_up(&mut self, alloc: Global, after: &Canvas) -> Result<Option<Region>, AllocError>
+        requires { extent after.now ≡ extent self.old }
+        ensures region { IfOk result (λ region. MatchOption region (self.old ≡ after.now)
+            (λ region. ChangedIn self.old after.now region)) }
+        ensures ok { OnOk result (self.new ≡ after.now) }
+        ensures err { OnErr result (self.new ≡ self.old) }
+    {
+        self.frame.catch_up(alloc, &after.frame)
+    }
+
+    /// The same, where the pages agree above line `first` and from line `end` on. Of pages that lie upright no other line is looked at.
+    ///
+    /// # Errors
+    ///
+    /// Where memory ran out; the page is then as it was.
+    pub fn catch_up_between(
+        &mut self,
+        alloc: Global,
+        after: &Canvas,
+        first: u32,
+        end: u32,
+    ) -> Result<Option<Region>, AllocError>
+        requires extent { extent after.now ≡ extent self.old }
+        requires beside { AgreeBeside first end self.old after.now }
+        ensures region { IfOk result (λ region. MatchOption region (self.old ≡ after.now)
+            (λ region. ChangedIn self.old after.now region)) }
+        ensures ok { OnOk result (self.new ≡ after.now) }
+        ensures err { OnErr result (self.new ≡ self.old) }
+    {
+        self.frame.catch_up_between(alloc, &after.frame, first, end)
     }
 
     /// The physical page, in memory of its own.

@@ -1,12 +1,16 @@
 //! Frames of pages.
 
-ghost use Rattle.std.specs.Prelude.{◌≡◌, ◌≢◌, IfOk, IsErr, OnOk};
+ghost use Rattle.std.specs.Prelude.{◌≡◌, ◌≢◌, ◌<◌, true, IfOk, IsErr, MatchOption, OnErr, OnOk};
+ghost use Rattle.press_bits.specs.Page.{HasNoDotOutside, black_at, is_page_size};
+ghost use Rattle.press_bits.specs.Patches.{AgreeBeside, ChangedIn};
+ghost use Rattle.press_page.specs.Place.{placed_dot};
 ghost use Rattle.press_page.specs.declared.media.Orientation.TheVariants.{Portrait};
-ghost use Rattle.press_canvas.specs.Turned.{frame_page, opposite};
+ghost use Rattle.press_canvas.specs.Turned.{extent, frame_page, opposite};
 
-use crate::turning::turned;
-use press_bits::Bitmap;
-use press_page::Orientation;
+use crate::changes::{changed_dots, on_page, region_of};
+use crate::turning::{turned, turned_size};
+use press_bits::{Bitmap, Region};
+use press_page::{Extent, Orientation};
 use std::alloc::{AllocError, Global};
 
 /// The frame of a page: its dots in the order in which marks are painted, and the orientation that turns it into the page.
@@ -25,6 +29,20 @@ fn opposite(orientation: Orientation) -> Orientation
         Orientation::Landscape => Orientation::ReverseLandscape,
         Orientation::ReversePortrait => Orientation::ReversePortrait,
         Orientation::ReverseLandscape => Orientation::Landscape,
+    }
+}
+
+/// The dot of a frame that lies at a column and a line of its page, which has so many dots: its column and its line.
+fn placed_dot(orientation: Orientation, page: Extent, x: u32, y: u32) -> (u32, u32)
+    requires column { x < page.width }
+    requires line { y < page.height }
+    ensures { result ≡ placed_dot orientation page.width page.height x y }
+{
+    match orientation {
+        Orientation::Portrait => (x, y),
+        Orientation::Landscape => (page.height - 1 - y, x),
+        Orientation::ReversePortrait => (page.width - 1 - x, page.height - 1 - y),
+        Orientation::ReverseLandscape => (y, page.width - 1 - x),
     }
 }
 
@@ -68,5 +86,101 @@ impl Frame {
         }
         let page = turned(&self.bitmap, alloc, self.orientation, spare)?;
         Ok((page, Some(self.bitmap)))
+    }
+
+    /// How many dots the page of the frame has.
+    pub(crate) fn page_extent(&self) -> Extent
+        ensures extent { result ≡ extent (frame_page self.now) }
+        ensures fits { is_page_size result.width result.height ≡ true }
+        ensures inside { HasNoDotOutside (frame_page self.now) }
+    {
+        let (width, height) = (self.bitmap.width(), self.bitmap.height());
+        turned_size(self.orientation, Extent { width, height })
+    }
+
+    /// Whether the dot at column `x` of line `y` of its page is black; `false` outside the page.
+    pub(crate) fn get(&self, x: u32, y: u32) -> bool
+        ensures { result ≡ black_at (frame_page self.now) x y }
+    {
+        let page = self.page_extent();
+        if x >= page.width || y >= page.height {
+            return false;
+        }
+        let (column, line) = placed_dot(self.orientation, page, x, y);
+        self.bitmap.get(column, line)
+    }
+
+    /// Takes over the lines of a region of another frame that lies so, outside of which they agree. The answer is the region of the pages in
+    /// which they differed.
+    ///
+    /// # Errors
+    ///
+    /// Where memory ran out; the page is then as it was.
+    fn take_lines(&mut self, after: &Frame, region: Region) -> Result<Region, AllocError>
+        requires alike { after.now.orientation ≡ self.old.orientation }
+        requires changed { ChangedIn self.old.bitmap after.now.bitmap region }
+        ensures region { IfOk result (λ region.
+            ChangedIn (frame_page self.old) (frame_page after.now) region) }
+        ensures ok { OnOk result (frame_page self.new ≡ frame_page after.now) }
+        ensures err { OnErr result (frame_page self.new ≡ frame_page self.old) }
+    {
+        let dots = changed_dots(&self.bitmap, &after.bitmap, region);
+        let changed = on_page(self.orientation, self.page_extent(), dots);
+        self.bitmap.take_lines(&after.bitmap, region)?;
+        Ok(region_of(changed))
+    }
+
+    /// Becomes a frame of another page of this size. The answer is the region in which the pages differed; none exactly where they were equal.
+    ///
+    /// # Errors
+    ///
+    /// Where memory ran out; the page is then as it was.
+    pub(crate) fn catch_up(
+        &mut self,
+        alloc: Global,
+        after: &Frame,
+    ) -> Result<Option<Region>, AllocError>
+        requires { extent (frame_page after.now) ≡ extent (frame_page self.old) }
+        ensures region { IfOk result (λ region.
+            MatchOption region (frame_page self.old ≡ frame_page after.now)
+            (λ region. ChangedIn (frame_page self.old) (frame_page after.now) region)) }
+        ensures ok { OnOk result (frame_page self.new ≡ frame_page after.now) }
+        ensures err { OnErr result (frame_page self.new ≡ frame_page self.old) }
+    {
+        self.lie_as(alloc, after.orientation)?;
+        match self.bitmap.changed(&after.bitmap) {
+            Some(region) => Ok(Some(self.take_lines(after, region)?)),
+            None => Ok(None),
+        }
+    }
+
+    /// The same, where the pages agree above line `first` and from line `end` on: where both frames lie upright, no other line is looked at.
+    ///
+    /// # Errors
+    ///
+    /// Where memory ran out; the page is then as it was.
+    pub(crate) fn catch_up_between(
+        &mut self,
+        alloc: Global,
+        after: &Frame,
+        first: u32,
+        end: u32,
+    ) -> Result<Option<Region>, AllocError>
+        requires extent { extent (frame_page after.now) ≡ extent (frame_page self.old) }
+        requires beside { AgreeBeside first end (frame_page self.old) (frame_page after.now) }
+        ensures region { IfOk result (λ region.
+            MatchOption region (frame_page self.old ≡ frame_page after.now)
+            (λ region. ChangedIn (frame_page self.old) (frame_page after.now) region)) }
+        ensures ok { OnOk result (frame_page self.new ≡ frame_page after.now) }
+        ensures err { OnErr result (frame_page self.new ≡ frame_page self.old) }
+    {
+        let (Orientation::Portrait, Orientation::Portrait) = (self.orientation, after.orientation)
+        else {
+            return self.catch_up(alloc, after);
+        };
+        match self.bitmap.changed_between(&after.bitmap, first, end) {
+            Some(region) => Ok(Some(self.take_lines(after, region)?)),
+            None => Ok(None),
+        }
     }
 }

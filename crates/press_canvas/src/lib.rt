@@ -3,6 +3,7 @@
 
 mod block;
 mod canvas;
+mod changes;
 mod columns;
 mod frame;
 mod lines;

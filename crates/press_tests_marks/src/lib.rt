@@ -4,6 +4,8 @@
 #[cfg(test)]
 mod bitmaps;
 #[cfg(test)]
+mod canvases;
+#[cfg(test)]
 mod files;
 #[cfg(test)]
 mod fills;
