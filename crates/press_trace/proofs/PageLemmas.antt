@@ -1,16 +1,17 @@
 -- What is told of the open page.
-use Rattle.std.proofs.Common.{◌≡◌, ◌∙◌, ◌+◌, ◌-◌, ◌≤◌, ◌<◌, ℕ, List, [], ◌∷◌, ◌++◌, map, get_or, Option, None, Some, inr, sym, ap, arith}
+use Rattle.std.proofs.Common.{◌≡◌, ◌∙◌, ◌+◌, ◌-◌, ◌*◌, ◌≤◌, ◌<◌, ℕ, Bool, zero, suc, List, [], ◌∷◌, ◌++◌, map, take, drop, get_or, refl, Option, None, Some, inr, sym, ap, arith}
 use Rattle.std.proofs.lemmas.List.{map-append}
-use Rattle.std.proofs.lemmas.List.FromFn.{map-range_with_len_more}
+use Rattle.std.proofs.lemmas.List.FromFn.{map-range_with_len_more, take-map-range_with_len}
 use Rattle.std.specs.List.{range_with_len}
 use Rattle.serde_json.specs.Data.{Data, string}
 use Rattle.serde_json.specs.View.{view}
 use Rattle.serde_json.specs.declared.value.Value.{Value}
 use Rattle.hex.specs.Hex.{encode_upper}
-use Rattle.press_bits.specs.Lines.{IsPageLine}
-use Rattle.press_bits.specs.Page.{Page, HasNoDotOutside, blank}
+use Rattle.press_bits.specs.Lines.{IsPageLine, bytes_per_line}
+use Rattle.press_bits.specs.Page.{Page, HasNoDotOutside, black_at, blank}
 use Rattle.press_bits.specs.declared.region.Region.{Region}
-use Rattle.press_pbm.proofs.LineLemmas.{IsPageLine-line_bytes}
+use Rattle.press_pbm.specs.Spelling.{byte_of_dots, line_bytes}
+use Rattle.press_pbm.proofs.LineLemmas.{IsPageLine-line_bytes, bit}
 use Rattle.press_trace.specs.Pages.{row_in, row_data, size_data, StartsFrom, Follows, IsPageTold}
 
 pub row_is : (page : Page) (region : Region) (y : ℕ) (line : List ℕ) (told : Data) → HasNoDotOutside page
@@ -18,6 +19,70 @@ pub row_is : (page : Page) (region : Region) (y : ℕ) (line : List ℕ) (told :
     → told ≡ row_data page region y
 row_is page region y line told none small is here =
     here ∙ ap (λ (bytes : List ℕ). string (encode_upper (row_in region bytes))) (IsPageLine-line_bytes page y line none small is)
+
+-- a list of numbers without its first ones
+drop_range : {X : Type 0} (f : ℕ → X) (a n l : ℕ) → drop l (map f (range_with_len a n)) ≡ map f (range_with_len (a + l) (n - l))
+drop_range f a n zero = λ i. map f (range_with_len (start i) (count i)) where
+  start : a ≡ a + 0
+  start = omega arith
+
+  count : n ≡ n - 0
+  count = omega arith
+drop_range f a zero (suc l) = λ i. map f (range_with_len (a + suc l) (none i)) where
+  none : 0 ≡ 0 - suc l
+  none = omega arith
+drop_range f a (suc n) (suc l) = drop_range f (a + 1) n l ∙ (λ i. map f (range_with_len (start i) (count i))) where
+  start : a + 1 + l ≡ a + suc l
+  start = omega arith
+
+  count : n - l ≡ suc n - suc l
+  count = omega arith
+
+-- the bytes of a line from one on, as many as there are before another
+pub row_of_dots : (page : Page) (region : Region) (y : ℕ) → region.left ≤ region.right → region.right ≤ bytes_per_line page.width
+    → map (λ i. byte_of_dots (λ j. black_at page (8 * i + j) y)) (range_with_len region.left (region.right - region.left)) ≡ row_in region (line_bytes page y)
+unfolding line_bytes
+row_of_dots page region y order within =
+    let byte : ℕ → ℕ = λ i. byte_of_dots (λ j. black_at page (8 * i + j) y) in
+    let all : ℕ = bytes_per_line page.width in
+    let count : ℕ = region.right - region.left in
+    sym (take-map-range_with_len byte region.left (all - region.left) count (omega (arith, within)))
+    ∙ ap (λ first. take count (map byte (range_with_len first (all - region.left)))) start
+    ∙ ap (take count) (sym (drop_range byte 0 all region.left))
+  where
+    start : region.left ≡ 0 + region.left
+    start = omega arith
+
+-- one byte more
+pub row_more : (page : Page) (left index y : ℕ) (row all : List ℕ) (byte : ℕ) → left ≤ index
+    → row ≡ map (λ i. byte_of_dots (λ j. black_at page (8 * i + j) y)) (range_with_len left (index - left))
+    → byte ≡ byte_of_dots (λ j. black_at page (8 * index + j) y) → all ≡ row ++ byte ∷ []
+    → all ≡ map (λ i. byte_of_dots (λ j. black_at page (8 * i + j) y)) (range_with_len left (index + 1 - left))
+row_more page left index y row all byte behind so_far is more =
+    let each : ℕ → ℕ = λ i. byte_of_dots (λ j. black_at page (8 * i + j) y) in
+    let here : left + (index - left) ≡ index = omega (arith, behind) in
+    let count : index - left + 1 ≡ index + 1 - left = omega (arith, behind) in
+    more
+    ∙ (λ i. so_far i ++ is i ∷ [])
+    ∙ sym (map-range_with_len_more each left (index - left) index here)
+    ∙ ap (λ n. map each (range_with_len left n)) count
+
+eight : (a b c d e f g h : ℕ) → 128 * a + 64 * b + 32 * c + 16 * d + 8 * e + 4 * f + 2 * g + h
+    ≡ 2 * (2 * (2 * (2 * (2 * (2 * (2 * (2 * 0 + a) + b) + c) + d) + e) + f) + g) + h
+eight a b c d e f g h = omega arith
+
+-- a byte of eight bits
+pub byte_is : (dots : ℕ → Bool) (a b c d e f g h : ℕ) → a ≡ bit (dots 0) → b ≡ bit (dots 1) → c ≡ bit (dots 2) → d ≡ bit (dots 3)
+    → e ≡ bit (dots 4) → f ≡ bit (dots 5) → g ≡ bit (dots 6) → h ≡ bit (dots 7)
+    → 128 * a + 64 * b + 32 * c + 16 * d + 8 * e + 4 * f + 2 * g + h ≡ byte_of_dots dots
+unfolding byte_of_dots
+byte_is dots a b c d e f g h p q r s t u v w =
+    (λ i. 128 * p i + 64 * q i + 32 * r i + 16 * s i + 8 * t i + 4 * u i + 2 * v i + w i)
+    ∙ eight (bit (dots 0)) (bit (dots 1)) (bit (dots 2)) (bit (dots 3)) (bit (dots 4)) (bit (dots 5)) (bit (dots 6)) (bit (dots 7))
+
+pub row_gathered_is : (page : Page) (region : Region) (y : ℕ) (row : List ℕ) (told : Data) → told ≡ string (encode_upper row) → row ≡ row_in region (line_bytes page y)
+    → told ≡ row_data page region y
+row_gathered_is page region y row told here is = here ∙ ap (λ (bytes : List ℕ). string (encode_upper bytes)) is
 
 pub rows_more : (page : Page) (region : Region) (y : ℕ) (rows all : List Value) (value : Value) → region.top ≤ y
     → map view rows ≡ map (row_data page region) (range_with_len region.top (y - region.top)) → view value ≡ row_data page region y
@@ -31,12 +96,11 @@ rows_more page region y rows all value behind so_far is more =
     ∙ sym (map-range_with_len_more (row_data page region) region.top (y - region.top) y here)
     ∙ ap (λ n. map (row_data page region) (range_with_len region.top n)) count
 
-pub starts_white : (before : Option Page) (after page : Page) (width height : ℕ) (opened : Data) → width ≡ after.width
-    → height ≡ after.height → page ≡ blank width height → opened ≡ size_data after → StartsFrom before after page (Some opened)
+pub starts_white : (before : Option Page) (after page : Page) (opened : Data) → page ≡ blank after.width after.height → opened ≡ size_data after
+    → StartsFrom before after page (Some opened)
 unfolding blank
-starts_white before after page width height opened wide high white is =
-    let here : page ≡ blank after.width after.height = white ∙ (λ i. blank (wide i) (high i)) in
-    (sym (ap (λ (one : Page). one.width) here), sym (ap (λ (one : Page). one.height) here), inr (here, ap (λ (told : Data). Some told) is))
+starts_white before after page opened white is =
+    (sym (ap (λ (one : Page). one.width) white), sym (ap (λ (one : Page). one.height) white), inr (white, ap (λ (told : Data). Some told) is))
 
 pub told_open : (before : Option Page) (after from : Page) (opened told : Option Data) → StartsFrom before after from opened → Follows from after told → IsPageTold before (Some after) opened told
 told_open None after from opened told starts follows = (from, starts, follows)

@@ -8,6 +8,7 @@ pub mod laws;
 mod line;
 mod page;
 mod place;
+mod rows;
 mod seen;
 mod sent;
 mod spelled;

@@ -8,7 +8,7 @@ use crate::place::Place;
 use crate::seen::Seen;
 use crate::sent::WentOut;
 use crate::touched::{Touched, row_line, touched_by};
-use press_bits::Bitmap;
+use press_canvas::Canvas;
 use press_engine::StepOutput;
 use press_stream::{Job, JobStep};
 use std::alloc::{AllocError, Global};
@@ -25,7 +25,7 @@ pub(crate) struct Tracer {
     /// What could be seen behind the last step, if one was told.
     before: Option<Seen>,
     /// The page that was open behind it.
-    page: Option<Bitmap>,
+    page: Option<Canvas>,
 }
 
 impl Tracer {
