@@ -2,13 +2,13 @@
 use Rattle.std.proofs.Common.{◌≡◌, ℕ, ◌+◌, ◌-◌, ◌*◌, ◌/◌, ◌%◌, ◌^◌, ◌<◌, ◌≤◌, ◌⊎◌, zero, suc, Bool, true, false, not, ◌&&◌, ◌||◌}
 use Rattle.std.proofs.Common.{List, [], ◌∷◌, length, take, drop, get_or, refl, sym, ap, ◌∙◌, inl, inr, count_ones, w64, arith}
 use Rattle.std.specs.Prelude.{nat_lt, nat_le, nat_eq, bit_and, bit_or, if◌then◌else◌}
-use Rattle.std.specs.Int.{bit_at, bit_not, to_be_bytes, from_be_bytes}
+use Rattle.std.specs.Int.{bit_at, bit_not, to_le_bytes, to_be_bytes, from_be_bytes, swap_bytes}
 use Rattle.std.specs.List.{range_with_len, count_by}
 use Rattle.std.proofs.Math.Nat.{div-add-mod}
 use Rattle.std.proofs.lemmas.Bool.{cases_lt}
 use Rattle.std.proofs.lemmas.Bool.Decides.{nat_tests}
 use Rattle.std.proofs.lemmas.List.{get_or_past, get_or-take, get_or-drop, get_or_append_left, get_or-append_right, length-take}
-use Rattle.std.proofs.lemmas.Nat.{ones_cat, be_bytes_8, and_le_l, pow_pos}
+use Rattle.std.proofs.lemmas.Nat.{ones_cat, le_bytes_8, be_bytes_8, and_le_l, pow_pos}
 use Rattle.std.proofs.lemmas.Nat.Bits.{bit_at_and, bit_at_or, bit_at_not, bit_at_ones, bit_at-zero, bit_at-lt, bit_at_above, bit_at_cat_low, bit_at_cat_high}
 use borrow.Rule.Slice.PartMut.{put_mid}
 use Rattle.press_bits.specs.DotRule.{dot_after}
@@ -40,6 +40,21 @@ byte_dot-to_be_bytes n (suc (suc (suc (suc (suc (suc (suc zero))))))) j within l
     let whole : n ≡ n / 2 ^ 0 = omega arith in
     ap (λ m. byte_dot (m % 256) j) whole ∙ byte_of n 0 7 j refl low
 byte_dot-to_be_bytes n (suc (suc (suc (suc (suc (suc (suc (suc i)))))))) j within low = absurd (omega arith)
+
+-- the bytes of a number whose bytes are turned round
+pub to_le_bytes-swap_bytes : (n : ℕ) → to_le_bytes w64 (swap_bytes w64 n) ≡ to_be_bytes w64 n
+to_le_bytes-swap_bytes n = le_bytes_8 (to_be_bytes w64 n) (swap_bytes w64 n) refl small (omega arith)
+  where
+    small : (i : ℕ) → get_or (to_be_bytes w64 n) i 0 < 256
+    small zero = omega arith
+    small (suc zero) = omega arith
+    small (suc (suc zero)) = omega arith
+    small (suc (suc (suc zero))) = omega arith
+    small (suc (suc (suc (suc zero)))) = omega arith
+    small (suc (suc (suc (suc (suc zero))))) = omega arith
+    small (suc (suc (suc (suc (suc (suc zero)))))) = omega arith
+    small (suc (suc (suc (suc (suc (suc (suc zero))))))) = omega arith
+    small (suc (suc (suc (suc (suc (suc (suc (suc i)))))))) = omega arith
 
 -- the eight bytes from byte k on, 0 past the last one
 abbrev pub eight_bytes : List ℕ → ℕ → List ℕ
@@ -227,21 +242,21 @@ unfolding word_dot byte_dot
 in_byte byte s j low within past = ap (λ m. nat_eq m 1) (bit_at-shr byte (8 - s) (63 - j) ∙ ap (bit_at byte) (omega arith))
 
 -- the dots of nine bytes, from one of the first eight on
-pub nine_bytes : (bits : List ℕ) (first left right j : ℕ) → right < 256 → ((i : ℕ) → i < 64 → word_dot left i ≡ row_dot bits (8 * (first / 8) + i)) → right ≡ get_or bits (first / 8 + 8) 0 → j < 64 →
-    word_dot (bit_or (left * 2 ^ (first % 8) % 2 ^ 64) (right / 2 ^ (8 - first % 8))) j ≡ row_dot bits (first + j)
-nine_bytes bits first left right j small dots is within =
-    word_dot-or (left * 2 ^ (first % 8) % 2 ^ 64) (right / 2 ^ (8 - first % 8)) j
-    ∙ elim (cases_lt (first % 8 + j) 64) [
+pub nine_bytes : (bits : List ℕ) (index shift left right j : ℕ) → shift < 8 → right < 256 → ((i : ℕ) → i < 64 → word_dot left i ≡ row_dot bits (8 * index + i)) → right ≡ get_or bits (index + 8) 0 → j < 64 →
+    word_dot (bit_or (left * 2 ^ shift % 2 ^ 64) (right / 2 ^ (8 - shift))) j ≡ row_dot bits (8 * index + shift + j)
+nine_bytes bits index shift left right j few small dots is within =
+    word_dot-or (left * 2 ^ shift % 2 ^ 64) (right / 2 ^ (8 - shift)) j
+    ∙ elim (cases_lt (shift + j) 64) [
       | inl low ↦
-          (λ i. shifted_left left (first % 8) j low i || no_byte right (first % 8) j small (omega arith) low i)
-          ∙ or_false (word_dot left (first % 8 + j))
-          ∙ dots (first % 8 + j) low
+          (λ i. shifted_left left shift j low i || no_byte right shift j small few low i)
+          ∙ or_false (word_dot left (shift + j))
+          ∙ dots (shift + j) low
           ∙ ap (row_dot bits) (omega arith)
       | inr high ↦
-          let bit : first % 8 + j - 64 ≡ (first + j) % 8 = omega arith in
-          (λ i. white_behind left (first % 8) j within high i || in_byte right (first % 8) j (omega arith) within high i)
+          let bit : shift + j - 64 ≡ (8 * index + shift + j) % 8 = omega arith in
+          (λ i. white_behind left shift j within high i || in_byte right shift j few within high i)
           ∙ (λ i. byte_dot (is i) (bit i))
-          ∙ row_dot-of_byte bits (first / 8 + 8) (first + j) (omega arith)
+          ∙ row_dot-of_byte bits (index + 8) (8 * index + shift + j) (omega arith)
     ]
 
 -- the front of one word, and behind it another

@@ -1,12 +1,12 @@
 //! Rows of dots that are mixed into the bytes of a page, sixty-four dots at a time.
 ghost use Rattle.std.specs.Prelude.{◌≡◌, ℕ, ◌+◌, ◌-◌, ◌*◌, ◌/◌, ◌^◌, ◌<◌, ◌≤◌, ◌⊎◌, ◌&&◌, nat_le, nat_lt, min, pos, ◌+ℤ◌, length, false};
-ghost use Rattle.press_bits.specs.Mark.{IsBlack, row, row_dot};
+ghost use Rattle.press_bits.specs.Mark.{row, row_dot, repeated};
 ghost use Rattle.press_bits.specs.Words.{word_dot};
 ghost use Rattle.press_bits.specs.Ranges.{IsBlackened, IsPaintedAlong, IsPaintedFrom};
 
-use crate::mode::Mode;
+use crate::mode::{Mode, TRANSPARENT};
 use crate::stroke::{Run, Stroke};
-use crate::word::{alike, mixed_word, put_word, whole_word_from, word_at, word_from};
+use crate::word::{mixed_word, put_word, whole_word_at, whole_word_from, word_at, word_from};
 
 /// The dots that lie on a side of a page, of a row whose first dot lies at place `at`.
 pub(crate) fn run_within(at: i64, dots: usize, side: u32) -> Run
@@ -89,106 +89,102 @@ fn paint_words(rows: &mut [u8], first: usize, words: usize, line: usize, stroke:
     }
 }
 
-/// Paints these sixty-four dots of a stroke, from a byte on, where its pattern is black and its white dots are transparent.
+/// Paints these sixty-four dots of a stroke, from a byte on, through these dots of its pattern.
 #[inline(always)]
-fn ink_word(rows: &mut [u8], index: usize, line: usize, stroke: &Stroke<'_, '_>, dots: u64)
-    requires black { IsBlack (row stroke.now.through.pattern) }
-    requires transparent { stroke.now.mode.source_opaque ≡ false }
+fn mix_word(
+    rows: &mut [u8],
+    index: usize,
+    line: usize,
+    stroke: &Stroke<'_, '_>,
+    dots: u64,
+    through: u64,
+    mode: Mode,
+)
+    requires mode { mode ≡ stroke.now.mode }
     requires room { index + 8 ≤ length rows.old }
     requires small { length rows.old < 2 ^ 40 }
     requires begun { 8 * line + stroke.now.run.first ≤ 8 * index }
-    requires left { 8 * index + 64 ≤ 8 * line + stroke.now.run.first + stroke.now.run.count }
-    requires enough { stroke.now.run.skip + stroke.now.run.count ≤ stroke.now.source.dots }
     requires dots { (j : ℕ) → j < 64 → word_dot dots j ≡ row_dot stroke.now.source.bits.now
         (stroke.now.run.skip + (8 * index - (8 * line + stroke.now.run.first)) + j) }
+    requires through { (j : ℕ) → j < 64 → word_dot through j
+        ≡ repeated (row stroke.now.through.pattern) (8 * (index - line) + j) }
     ensures { IsPaintedFrom rows.old rows.new line stroke.now (8 * index) (8 * index + 64) }
 {
-    let before = word_at(rows, index);
+    let before = whole_word_at(rows, index);
     let mask = mask_word(Part {
         index,
         from: 8 * index,
         to: 8 * index + 64,
     });
-    let mode = Mode {
-        source_opaque: false,
-        pattern_opaque: stroke.mode.pattern_opaque,
-    };
-    let through = alike(true);
     let after = mixed_word(before, dots, through, mask, mode);
     put_word(rows, index, after);
 }
 
-/// Paints so many words of sixty-four dots of a stroke, from a byte on, where its pattern is black and its white dots are transparent:
-/// those of the source that end before its last byte.
+/// Paints so many words of sixty-four dots of a stroke, from a byte on, through these dots of its pattern, which come again at each
+/// word: words of the source that end before its last byte, so that none of them asks for a bound.
 #[inline(always)]
-fn ink_inner_words(
+fn mix_inner_words(
     rows: &mut [u8],
     first: usize,
     words: usize,
     line: usize,
     stroke: &Stroke<'_, '_>,
+    through: u64,
+    mode: Mode,
 )
-    requires black { IsBlack (row stroke.now.through.pattern) }
-    requires transparent { stroke.now.mode.source_opaque ≡ false }
+    requires mode { mode ≡ stroke.now.mode }
     requires room { first + 8 * words ≤ length rows.old }
     requires small { length rows.old < 2 ^ 40 }
     requires begun { 8 * line + stroke.now.run.first ≤ 8 * first }
     requires left { 8 * first + 64 * words
         ≤ 8 * line + stroke.now.run.first + stroke.now.run.count }
     requires enough { stroke.now.run.skip + stroke.now.run.count ≤ stroke.now.source.dots }
+    requires through { (k j : ℕ) → j < 64 → word_dot through j
+        ≡ repeated (row stroke.now.through.pattern) (8 * (first - line) + 64 * k + j) }
     requires inner { 0 < words → (stroke.now.run.skip + (8 * first
         - (8 * line + stroke.now.run.first))) / 8 + 8 * words + 1
         ≤ length stroke.now.source.bits.now }
     ensures { IsPaintedFrom rows.old rows.new line stroke.now (8 * first) (8 * first + 64 * words) }
 {
     let dot = stroke.run.skip + (8 * first - (8 * line + stroke.run.first));
+    let (start, shift) = (dot / 8, dot % 8);
     for word in 0..words {
-        let dots = whole_word_from(stroke.source.bits, dot + 64 * word);
-        ink_word(rows, first + 8 * word, line, stroke, dots);
+        let dots = whole_word_from(stroke.source.bits, start + 8 * word, shift);
+        mix_word(rows, first + 8 * word, line, stroke, dots, through, mode);
     }
 }
 
-/// Paints so many words of sixty-four dots of a stroke, from a byte on, where its pattern is black and its white dots are transparent.
+/// The same, with a loop of its own where all white dots are transparent.
 #[inline(always)]
-fn ink_last_words(rows: &mut [u8], first: usize, words: usize, line: usize, stroke: &Stroke<'_, '_>)
-    requires black { IsBlack (row stroke.now.through.pattern) }
-    requires transparent { stroke.now.mode.source_opaque ≡ false }
+fn mix_repeated(
+    rows: &mut [u8],
+    first: usize,
+    words: usize,
+    line: usize,
+    stroke: &Stroke<'_, '_>,
+    through: u64,
+)
     requires room { first + 8 * words ≤ length rows.old }
     requires small { length rows.old < 2 ^ 40 }
     requires begun { 8 * line + stroke.now.run.first ≤ 8 * first }
     requires left { 8 * first + 64 * words
         ≤ 8 * line + stroke.now.run.first + stroke.now.run.count }
     requires enough { stroke.now.run.skip + stroke.now.run.count ≤ stroke.now.source.dots }
+    requires through { (k j : ℕ) → j < 64 → word_dot through j
+        ≡ repeated (row stroke.now.through.pattern) (8 * (first - line) + 64 * k + j) }
+    requires inner { 0 < words → (stroke.now.run.skip + (8 * first
+        - (8 * line + stroke.now.run.first))) / 8 + 8 * words + 1
+        ≤ length stroke.now.source.bits.now }
     ensures { IsPaintedFrom rows.old rows.new line stroke.now (8 * first) (8 * first + 64 * words) }
 {
-    let dot = stroke.run.skip + (8 * first - (8 * line + stroke.run.first));
-    for word in 0..words {
-        let dots = word_from(stroke.source.bits, dot + 64 * word);
-        ink_word(rows, first + 8 * word, line, stroke, dots);
+    if stroke.mode == TRANSPARENT {
+        mix_inner_words(rows, first, words, line, stroke, through, TRANSPARENT);
+    } else {
+        mix_inner_words(rows, first, words, line, stroke, through, stroke.mode);
     }
 }
 
-/// The same, whose words of the source that end before its last byte ask for no bound.
-#[inline(always)]
-fn ink_words(rows: &mut [u8], first: usize, words: usize, line: usize, stroke: &Stroke<'_, '_>)
-    requires black { IsBlack (row stroke.now.through.pattern) }
-    requires transparent { stroke.now.mode.source_opaque ≡ false }
-    requires room { first + 8 * words ≤ length rows.old }
-    requires small { length rows.old < 2 ^ 40 }
-    requires begun { 8 * line + stroke.now.run.first ≤ 8 * first }
-    requires left { 8 * first + 64 * words
-        ≤ 8 * line + stroke.now.run.first + stroke.now.run.count }
-    requires enough { stroke.now.run.skip + stroke.now.run.count ≤ stroke.now.source.dots }
-    ensures { IsPaintedFrom rows.old rows.new line stroke.now (8 * first) (8 * first + 64 * words) }
-{
-    let dot = stroke.run.skip + (8 * first - (8 * line + stroke.run.first));
-    let behind = stroke.source.bits.len().saturating_sub(dot / 8 + 1);
-    let inner = words.min(behind / 8);
-    ink_inner_words(rows, first, inner, line, stroke);
-    ink_last_words(rows, first + 8 * inner, words - inner, line, stroke);
-}
-
-/// Paints so many words of sixty-four dots of a stroke, from a byte on: ink by a loop of its own.
+/// Paints so many words of sixty-four dots of a stroke, from a byte on: one whose pattern comes again at each word by a loop of its own.
 #[inline(always)]
 fn mix_words(rows: &mut [u8], first: usize, words: usize, line: usize, stroke: &Stroke<'_, '_>)
     requires room { first + 8 * words ≤ length rows.old }
@@ -199,11 +195,15 @@ fn mix_words(rows: &mut [u8], first: usize, words: usize, line: usize, stroke: &
     requires enough { stroke.now.run.skip + stroke.now.run.count ≤ stroke.now.source.dots }
     ensures { IsPaintedFrom rows.old rows.new line stroke.now (8 * first) (8 * first + 64 * words) }
 {
-    if stroke.through.is_black() && !stroke.mode.source_opaque {
-        ink_words(rows, first, words, line, stroke);
-    } else {
+    let Some(through) = stroke.through.each_word(8 * (first - line)) else {
         paint_words(rows, first, words, line, stroke);
-    }
+        return;
+    };
+    let dot = stroke.run.skip + (8 * first - (8 * line + stroke.run.first));
+    let behind = stroke.source.bits.len().saturating_sub(dot / 8 + 1);
+    let inner = words.min(behind / 8);
+    mix_repeated(rows, first, inner, line, stroke, through);
+    paint_words(rows, first + 8 * inner, words - inner, line, stroke);
 }
 
 /// Paints so many words of sixty-four dots of a stroke, from a byte on: where it is laid and its dots stand in whole bytes, these.

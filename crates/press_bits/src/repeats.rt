@@ -1,7 +1,7 @@
 //! Patterns that are repeated along a line, sixty-four dots at a time.
 #![tactic(auto)]
 
-ghost use Rattle.std.specs.Prelude.{◌≡◌, ℕ, ◌+◌, ◌%◌, ◌<◌, ◌≤◌, true};
+ghost use Rattle.std.specs.Prelude.{◌≡◌, ℕ, ◌+◌, ◌%◌, ◌<◌, ◌≤◌, ◌*◌, true, IfSome};
 ghost use Rattle.press_bits.specs.Mark.{IsBlack, row, repeated};
 ghost use Rattle.press_bits.specs.Words.{word_dot};
 
@@ -46,14 +46,28 @@ impl<'p> Repeats<'p> {
         self.divides && self.prefix == u64::MAX
     }
 
-    /// Sixty-four of its dots, from dot `first` on. Where its width divides sixty-four, they are those of the front, turned.
+    /// Sixty-four of its dots, from dot `first` on, if they come again each sixty-four dots: where its width divides sixty-four, those of
+    /// the front, turned.
+    #[inline(always)]
+    pub(crate) fn each_word(&self, first: usize) -> Option<u64>
+        ensures { IfSome result (λ word. (k j : ℕ) → j < 64
+            → word_dot word j ≡ repeated (row self.now.pattern) (first + 64 * k + j)) }
+    {
+        if self.divides {
+            Some(self.prefix.rotate_left((first % 64) as u32))
+        } else {
+            None
+        }
+    }
+
+    /// Sixty-four of its dots, from dot `first` on.
     #[inline(always)]
     pub(crate) fn word(&self, first: usize) -> u64
         ensures { (j : ℕ) → j < 64
             → word_dot result j ≡ repeated (row self.now.pattern) (first + j) }
     {
-        if self.divides {
-            return self.prefix.rotate_left((first % 64) as u32);
+        if let Some(word) = self.each_word(first) {
+            return word;
         }
         let phase = first % self.pattern.dots;
         let word = word_from(self.pattern.bits, phase);

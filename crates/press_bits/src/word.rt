@@ -11,6 +11,26 @@ ghost use Rattle.press_bits.specs.Words.{word_dot};
 use crate::dot_bytes::byte_at;
 use crate::mode::Mode;
 
+/// The sixty-four dots of the eight bytes from one on, all of which stand: no bound is asked.
+#[inline(always)]
+pub(crate) fn whole_word_at(bits: &[u8], index: usize) -> u64
+    requires { index + 8 ≤ length bits.now }
+    ensures dots { (j : ℕ) → j < 64 → word_dot result j ≡ row_dot bits.now (8 * index + j) }
+    ensures count { count_by (row_dot bits.now) (range_with_len 0 (8 * (index + 8)))
+        ≡ count_by (row_dot bits.now) (range_with_len 0 (8 * index)) + count_ones result }
+{
+    u64::from_be_bytes([
+        bits[index],
+        bits[index + 1],
+        bits[index + 2],
+        bits[index + 3],
+        bits[index + 4],
+        bits[index + 5],
+        bits[index + 6],
+        bits[index + 7],
+    ])
+}
+
 /// The sixty-four dots of the eight bytes from one on, white past the last byte.
 #[inline(always)]
 pub fn word_at(bits: &[u8], index: usize) -> u64
@@ -20,16 +40,7 @@ pub fn word_at(bits: &[u8], index: usize) -> u64
         ≡ count_by (row_dot bits.now) (range_with_len 0 (8 * index)) + count_ones result }
 {
     if index + 8 <= bits.len() {
-        u64::from_be_bytes([
-            bits[index],
-            bits[index + 1],
-            bits[index + 2],
-            bits[index + 3],
-            bits[index + 4],
-            bits[index + 5],
-            bits[index + 6],
-            bits[index + 7],
-        ])
+        whole_word_at(bits, index)
     } else {
         u64::from_be_bytes([
             byte_at(bits, index),
@@ -54,33 +65,15 @@ pub fn word_from(bits: &[u8], first: usize) -> u64
     (left << (first % 8)) | (right >> (8 - first % 8))
 }
 
-/// The sixty-four dots of the eight bytes from one on, all of which stand: no bound is asked.
+/// Sixty-four dots of the nine bytes from one on, all of which stand: from dot `shift` of the first byte on.
 #[inline(always)]
-fn whole_word_at(bits: &[u8], index: usize) -> u64
-    requires { index + 8 ≤ length bits.now }
-    ensures { (j : ℕ) → j < 64 → word_dot result j ≡ row_dot bits.now (8 * index + j) }
+pub(crate) fn whole_word_from(bits: &[u8], index: usize, shift: usize) -> u64
+    requires low { shift < 8 }
+    requires room { index + 9 ≤ length bits.now }
+    ensures { (j : ℕ) → j < 64 → word_dot result j ≡ row_dot bits.now (8 * index + shift + j) }
 {
-    u64::from_be_bytes([
-        bits[index],
-        bits[index + 1],
-        bits[index + 2],
-        bits[index + 3],
-        bits[index + 4],
-        bits[index + 5],
-        bits[index + 6],
-        bits[index + 7],
-    ])
-}
-
-/// Sixty-four dots of the bytes from dot `first` on, in nine bytes all of which stand.
-#[inline(always)]
-pub(crate) fn whole_word_from(bits: &[u8], first: usize) -> u64
-    requires { first / 8 + 9 ≤ length bits.now }
-    ensures { (j : ℕ) → j < 64 → word_dot result j ≡ row_dot bits.now (first + j) }
-{
-    let shift = first % 8;
-    let left = whole_word_at(bits, first / 8);
-    let right = bits[first / 8 + 8] as u64;
+    let left = whole_word_at(bits, index);
+    let right = bits[index + 8] as u64;
     (left << shift) | (right >> (8 - shift))
 }
 
@@ -92,7 +85,7 @@ pub fn put_word(rows: &mut [u8], index: usize, word: u64)
     ensures elsewhere { (p : ℕ) → (p < 8 * index) ⊎ (8 * index + 64 ≤ p)
         → row_dot rows.new p ≡ row_dot rows.old p }
 {
-    rows[index..index + 8].copy_from_slice(&word.to_be_bytes());
+    rows[index..index + 8].copy_from_slice(&word.swap_bytes().to_le_bytes());
 }
 
 /// The first `count` dots of one word, and then dots of another from its first on.

@@ -115,6 +115,7 @@ impl Patterns {
     }
 
     /// The tile of a pattern, if it exists.
+    #[inline(always)]
     pub fn tile(&self, pattern: Pattern) -> Option<Tile<'_>>
         ensures { result ≡ tile_of self.now pattern.kind pattern.id }
     {
@@ -134,6 +135,7 @@ impl Patterns {
     /// are opaque.
     ///
     /// Source: PCL 5 Printer Language Technical Reference Manual, The PCL Print Model.
+    #[inline(always)]
     pub fn brush(&self, pattern: Pattern, mode: Mode) -> Option<Brush<'_>>
         ensures { result ≡ brush_of self.now pattern mode }
     {

@@ -25,6 +25,7 @@ use press_pattern::Brush;
 use press_rows::{Blocks, Method, Run, decode};
 use press_units::Pos;
 use std::alloc::{AllocError, Global};
+use std::mem;
 
 /// What the rows of a transfer have in common.
 #[derive(Clone, Copy)]
@@ -186,7 +187,7 @@ impl Drawing {
             return false;
         }
         self.position.rows = rows;
-        self.seed.copy_from_slice(&self.row);
+        mem::swap(&mut self.seed, &mut self.row);
         true
     }
 

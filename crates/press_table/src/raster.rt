@@ -124,7 +124,7 @@ impl State {
         ensures { IfOk result (λ _. self.new ≡ with_rows bytes.now self.old) }
     {
         let mut page = self.take_page(alloc)?;
-        let (pattern, settings) = (self.pattern_now(), self.drawing.raster);
+        let (pattern, settings) = (self.drawing.pattern, self.drawing.raster);
         let mode = self.drawing.mode;
         let brush = self
             .patterns
@@ -158,6 +158,7 @@ impl State {
     }
 
     /// `*b#W`: transfers rows; where raster graphics is off, it starts at the left edge.
+    #[inline(always)]
     pub(crate) fn transfer(&mut self, alloc: Global, bytes: &[u8]) -> Result<Effect, AllocError>
         ensures effect { IfOk result (λ effect.
             effect_of self.new effect ≡ transfer bytes.now self.old) }

@@ -168,6 +168,10 @@ impl State {
         if self.is_skipped(source, operation) {
             return Ok(Effect::Changes);
         }
+        // rows of raster graphics come most often, and their value is not read again
+        if matches!(operation, Operation::TransferRow) {
+            return self.transfer(alloc, command.data());
+        }
         self.apply(alloc, source, operation, command)
     }
 }

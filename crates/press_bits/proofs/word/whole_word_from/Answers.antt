@@ -3,4 +3,5 @@ use Rattle.press_bits.proofs.WordLemmas.{nine_bytes}
 use Rattle.press_bits.proofs.word.whole_word_from.Goals as goal
 
 pub returns : goal.returns
-returns c = λ j within. nine_bytes c.args.bits.now c.args.first c.whole_word_at-left.result _ j (search rules) c.whole_word_at-left.ensures (search rules) within
+returns c = λ j within.
+    nine_bytes c.args.bits.now c.args.index c.args.shift c.whole_word_at-left.result _ j c.requires.low (search rules) c.whole_word_at-left.ensures.dots (search rules) within

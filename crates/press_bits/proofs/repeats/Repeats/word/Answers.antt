@@ -1,16 +1,11 @@
-use Rattle.std.proofs.Common.{◌+◌, ◌-◌, ◌%◌, inl, inr, ap, ◌∙◌, arith, rules}
+use Rattle.std.proofs.Common.{◌+◌, ◌-◌, ◌%◌, inl, inr, ap, ◌∙◌, arith}
 use Rattle.std.proofs.lemmas.Bool.{cases_lt}
-use Rattle.press_bits.specs.Mark.{row}
-use Rattle.press_bits.specs.Words.{word_dot}
-use Rattle.press_bits.proofs.RepeatLemmas.{repeated-first, repeated-phase, IsPeriod-dots, behind, turned_prefix}
+use Rattle.press_bits.specs.Mark.{row, repeated}
+use Rattle.press_bits.proofs.RepeatLemmas.{repeated-first, repeated-phase, IsPeriod-dots, behind}
 use Rattle.press_bits.proofs.repeats.Repeats.word.Goals as goal
 
-pub returns-then-self : goal.returns-then-self
-returns-then-self c =
-    λ j within.
-    ap (λ n. word_dot n j) c.rotate_left.ensures
-    ∙ turned_prefix (row c.args.self.now.pattern) c.args.self.now.prefix c.args.first j (search rules)
-    (c.args.self.now.turns c.if-self.true) c.args.self.now.dots within
+pub returns-in-Some : goal.returns-in-Some
+returns-in-Some c = λ j within. c.in-Some.ensures 0 j within ∙ ap (repeated (row c.args.self.now.pattern)) (omega arith)
 
 pub returns-then-known-lt64 : goal.returns-then-known-lt64
 returns-then-known-lt64 c = λ j within.

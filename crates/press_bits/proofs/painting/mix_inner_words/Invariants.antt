@@ -1,6 +1,6 @@
 use Rattle.std.proofs.Common.{◌+◌, ◌*◌}
 use Rattle.press_bits.specs.Ranges.{IsPaintedFrom}
-use Rattle.press_bits.proofs.painting.ink_last_words.Given as goal
+use Rattle.press_bits.proofs.painting.mix_inner_words.Given as goal
 
 -- the words so far
 abbrev pub invariant-loop-word : goal.invariant-loop-word
