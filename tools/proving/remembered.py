@@ -6,25 +6,40 @@ one another, that is thousands of times the same files, and minutes. In a room t
 """
 
 import contextlib
+import importlib
 import os
 import runpy
 import sys
+from importlib.machinery import SourceFileLoader
+
+
+def remember(plain):
+    """The same function of a crate, which is asked once of each."""
+    known = {}
+
+    def remembered(crate):
+        if crate.folder not in known:
+            known[crate.folder] = plain(crate)
+        return known[crate.folder]
+
+    return remembered
 
 
 def library(rt):
-    """The kit's module, in which each sum is remembered, or None where the kit is made otherwise."""
+    """The kit's module, in which each sum and each list of the crates below is remembered, or None where the kit is made otherwise. However `rt` loads
+    it, it is this one that is run."""
     sys.path.insert(0, os.path.dirname(os.path.realpath(rt)))
+    plain = SourceFileLoader.exec_module
+
+    def exec_module(loader, module):
+        plain(loader, module)
+        if module.__name__ == "rtlib":
+            module.Crate.stamp, module.Crate.below = remember(module.Crate.stamp), remember(module.Crate.below)
+
+    SourceFileLoader.exec_module = exec_module
     with contextlib.suppress(ImportError, AttributeError):
-        import rtlib
-        plain, sums = rtlib.Crate.stamp, {}
-
-        def stamp(crate):
-            if crate.folder not in sums:
-                sums[crate.folder] = plain(crate)
-            return sums[crate.folder]
-
-        rtlib.Crate.stamp = stamp
-        return rtlib
+        return importlib.import_module("rtlib")
+    SourceFileLoader.exec_module = plain
     return None
 
 
