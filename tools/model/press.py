@@ -2,7 +2,7 @@
 
 import json
 
-from . import json_text, runs, table, ticket, writer
+from . import json_text, runs, ticket, writer
 from .engine import Deliver
 from .job_queue import ABORTED, COMPLETED, RUNNING, Queue, Refused
 
@@ -82,9 +82,9 @@ class Context:
         self.items = None  # of the trace of its job, once begun
         self.place = 0
 
-    def begin(self, job_of, rows):
+    def begin(self, job_of):
         if self.items is None:
-            self.items = runs.trace(job_of(self), rows, viewed=False)
+            self.items = runs.trace(job_of(self), viewed=False)
 
 
 def plain_job(context):
@@ -155,9 +155,9 @@ def check_parameters(message, kind, message_id):
 
 class Press:
     """Without suspension the message that asks for it is of an unknown type. The job of an entry may be any that prints its
-    ticket: how many steps it has depends on it. `upto` is the last group of what the press knows."""
+    ticket: how many steps it has depends on it."""
 
-    def __init__(self, suspends=True, job_of=plain_job, upto=table.BUILT, engines=1):
+    def __init__(self, suspends=True, job_of=plain_job, engines=1):
         if not 1 <= engines <= MOST_ENGINES:
             raise BadEngines()
         self.engines = [None] * engines  # the number of the entry that each runs
@@ -166,7 +166,6 @@ class Press:
         self.contexts = {}
         self.suspends = suspends
         self.job_of = job_of
-        self.upto = upto
 
     def message(self, text, images=()):
         try:
@@ -203,7 +202,7 @@ class Press:
         return self.do_to_entry(kind, message)
 
     def submit(self, message, images):
-        read = ticket.ticket_of(message["Ticket"], self.upto)
+        read = ticket.ticket_of(message["Ticket"])
         ticket.check(read, images)
         number = self.queue.submit(message.get("Priority", DEFAULT_PRIORITY))
         self.contexts[number] = Context(message["Ticket"], read, images)
@@ -269,7 +268,7 @@ class Press:
             return None, 0
         self.engines[engine] = entry.number
         context = self.contexts[entry.number]
-        context.begin(self.job_of, table.rows_up_to(self.upto))
+        context.begin(self.job_of)
         steps = min(most, len(context.items) - context.place)
         for item in context.items[context.place:context.place + steps]:
             self.hand_out(entry, context, item, sink)

@@ -10,7 +10,7 @@ import os
 from pathlib import Path
 from typing import NamedTuple, Optional
 
-from . import pbm, table
+from . import pbm
 from .press import BadEngines, NoEngine, Press, Sink, SinkFault, entry_name
 
 READ_FAULT, IMAGE_READ_FAULT = 304, 114
@@ -211,7 +211,7 @@ class Lines:
             return WHAT
         if words[0] == b"message" and len(words) > 1:
             return self.message(*map(os.fsdecode, words[1:]))
-        if words[0] == b"turn" and len(words) in self.lengths_of_turns():
+        if words[0] == b"turn" and len(words) in (2, 3):
             most, engine = number_of(words[1]), number_of(words[2]) if len(words) == 3 else 0
             return WHAT if None in (most, engine) else self.turn(engine, most)
         operators = {b"pause": self.press.pause, b"continue": self.press.carry_on, b"abort": self.press.abort_running}
@@ -219,10 +219,6 @@ class Lines:
             return WHAT
         operators[line]()
         return "ok"
-
-    def lengths_of_turns(self):
-        """How many words the line of a turn has."""
-        return (2, 3) if table.includes(self.press.upto, "engines") else (2,)
 
     def turn(self, engine, most):
         """The files that the turn made are told in front of it."""

@@ -8,7 +8,7 @@ each makes files of the sides, lists sums, and goes on behind lines that are wro
 import json
 from typing import NamedTuple
 
-from . import job_queue, table, ticket
+from . import job_queue, ticket
 from .pages import SIZES
 
 MIXED, LONG, FULL, FAULTY, FLIGHT = "mixed", "long", "full", "faulty", "flight"
@@ -88,21 +88,18 @@ def object_of(members, separators=(",", ":")):
 
 class Maker:
     """Makes a session of so many events, at whose end queue and device are asked for; `kind` says which. `files` are by name,
-    and None for a folder, or a link. `upto` is the last group of what the press knows."""
+    and None for a folder, or a link."""
 
-    def __init__(self, maker, events, upto=table.BUILT):
+    def __init__(self, maker, events):
         self.maker = maker
         self.events = events
-        self.upto = upto
         self.files = {}
         self.lines = []
         self.submitted = 0
         self.held = ["Q1"]  # entries that were to be held
         self.end = b""
-        self.with_engines = table.includes(upto, "engines")
-        kinds = [MIXED, LONG, FULL, FAULTY] + ([FLIGHT] if self.with_engines else [])
-        self.kind = maker.choices(kinds, [70, 14, 6, 10, 30][:len(kinds)])[0]
-        self.words = self.engine_words() if self.with_engines else []
+        self.kind = maker.choices([MIXED, LONG, FULL, FAULTY, FLIGHT], [70, 14, 6, 10, 30])[0]
+        self.words = self.engine_words()
         self.engines = int(self.words[1]) if self.words else 1
         self.flight = Flight(self.engines)
 
@@ -229,7 +226,7 @@ class Maker:
         many = str(self.pick(MANY_STEPS))
         words = ["0", "1", "3", "003", many]
         line = b"turn " + self.maker.choices(words, [2, 4, 4, 1, 30 if self.kind == LONG else 8])[0].encode()
-        return line + (self.engine() if self.with_engines else b"")
+        return line + self.engine()
 
     def engine(self):
         """An engine that there is, or none for the first one."""
@@ -259,14 +256,14 @@ class Maker:
         return self.maker.choices([b"pause", b"continue", b"abort"], [2, 4, 2])[0]
 
     def no_event(self):
-        if self.with_engines and self.chance(0.4):
+        if self.chance(0.4):
             return self.pick(NO_TURNS_OF_ENGINES)
         return self.pick(NO_EVENTS)
 
     def faulty_line(self):
         """A message with a file that is missing, cannot be read, or is no image; or with several of these. Or an engine that there
         is not."""
-        if self.with_engines and self.chance(0.4):
+        if self.chance(0.4):
             number = self.pick([self.engines, self.engines, 4, 255, 256, GREATEST_NUMBER])
             return b"turn %s %d" % (self.pick([b"0", b"1", b"1000000"]), number)
         text = self.file("m", self.submission_text(self.members(), []))
@@ -396,7 +393,7 @@ class Maker:
             members["Sides"] = self.pick(ticket.SIDES)
         if self.chance(0.5):
             members["Collate"] = self.pick([True, False])
-        if table.includes(self.upto, "resolution") and self.chance(0.5):
+        if self.chance(0.5):
             members["Resolution"] = self.pick([300, 600, 600])
         return members
 
@@ -434,7 +431,7 @@ class Maker:
         return self.message(text, images)
 
     def spoil(self, members):
-        change = self.maker.randrange(9 if table.includes(self.upto, "resolution") else 8)
+        change = self.maker.randrange(9)
         if change == 8:
             members["Resolution"] = self.pick([0, 150, 450, 1200, "600", None, True, b"600.0", b"6e2", b"-600", [600]])
         elif change == 0:
