@@ -14,12 +14,11 @@ DEFAULT_PRIORITY = 50
 
 # The parameters of each type, in their order; those after the bar may be absent.
 ENTRY = ["QueueEntryID"]
-SUSPEND = "SuspendQueueEntry"
 PARAMETERS = {
     "SubmitQueueEntry": ["Ticket", "|", "Priority"],
     "HoldQueueEntry": ENTRY,
     "ResumeQueueEntry": ENTRY,
-    SUSPEND: ENTRY,
+    "SuspendQueueEntry": ENTRY,
     "AbortQueueEntry": ENTRY,
     "RemoveQueueEntry": ENTRY,
     "SetQueueEntryPriority": ENTRY + ["Priority"],
@@ -118,7 +117,7 @@ def compact(fields):
     return json.dumps(fields, sort_keys=True, separators=(",", ":"), ensure_ascii=False).encode()
 
 
-def read_message(text, suspends=True):
+def read_message(text):
     """ID, type and the object of a message, or the answer to a faulty one."""
     try:
         message = json_text.read(text)
@@ -137,7 +136,7 @@ def read_message(text, suspends=True):
         raise Answer(MISSING, "", message_id)
     if not json_text.is_text(kind):
         raise Answer(BAD_MESSAGE, "", message_id)
-    if kind not in PARAMETERS or (kind == SUSPEND and not suspends):
+    if kind not in PARAMETERS:
         raise Answer(UNKNOWN_TYPE, kind, message_id)
     check_parameters(message, kind, message_id)
     return message_id, kind, message
@@ -154,22 +153,20 @@ def check_parameters(message, kind, message_id):
 
 
 class Press:
-    """Without suspension the message that asks for it is of an unknown type. The job of an entry may be any that prints its
-    ticket: how many steps it has depends on it."""
+    """The job of an entry may be any that prints its ticket: how many steps it has depends on it."""
 
-    def __init__(self, suspends=True, job_of=plain_job, engines=1):
+    def __init__(self, job_of=plain_job, engines=1):
         if not 1 <= engines <= MOST_ENGINES:
             raise BadEngines()
         self.engines = [None] * engines  # the number of the entry that each runs
         self.queue = Queue()
         self.paused = False
         self.contexts = {}
-        self.suspends = suspends
         self.job_of = job_of
 
     def message(self, text, images=()):
         try:
-            message_id, kind, message = read_message(text, self.suspends)
+            message_id, kind, message = read_message(text)
             try:
                 added = self.do(kind, message, list(images))
             except Refused as refused:
@@ -220,7 +217,7 @@ class Press:
             return {"Status": "Removed"}
         else:
             calls = {"HoldQueueEntry": self.queue.hold, "ResumeQueueEntry": self.queue.resume,
-                     SUSPEND: self.queue.suspend, "AbortQueueEntry": self.queue.abort}
+                     "SuspendQueueEntry": self.queue.suspend, "AbortQueueEntry": self.queue.abort}
             calls[kind](number)
         return {}
 

@@ -123,12 +123,12 @@ def told(fault):
     return "fault %d\n" % fault.number
 
 
-def played(words, script, folder=".", made=Press, **others):
+def played(words, script, folder=".", **others):
     """Status, standard output and standard error of the program with these words behind `press`. And what carried out the lines,
     or None."""
     asked = asked_by(words)
     try:
-        at = made(engines=asked.engines, **others)
+        at = Press(engines=asked.engines, **others)
         if asked.template is not None:
             check_template(asked.template)
     except (BadEngines, BadTemplate) as fault:

@@ -765,13 +765,16 @@ def test_refused_messages():
     assert shown_state(at) == before
 
 
-def test_press_without_suspension():
-    at = press.Press(suspends=False)
+def test_suspensions_that_are_refused():
+    at = press.Press()
     at.message(submission(), [IMAGE])
+    assert code(at.message(message("SuspendQueueEntry", QueueEntryID="Q1"))) == 22
+    assert code(at.message(message("SuspendQueueEntry", QueueEntryID="Q2"))) == 21
     at.turn(1, press.Sink())
-    assert at.message(message("SuspendQueueEntry", QueueEntryID="Q1")) == answer(5, "SuspendQueueEntry")
-    assert at.message(message("SuspendQueueEntry")) == answer(5, "SuspendQueueEntry")
+    assert at.message(message("SuspendQueueEntry")) == answer(7, "SuspendQueueEntry")
     assert at.queue.entries[0].status == "Running"
+    assert code(at.message(message("SuspendQueueEntry", QueueEntryID="Q1"))) == 0
+    assert at.queue.entries[0].status == "Suspended"
 
 
 def test_states_that_messages_show():
