@@ -35,8 +35,8 @@ def kind_of(words):
 
 
 class DebugLines:
-    def __init__(self, stream, rows=runs.BUILT_ROWS):
-        self.debugger = runs.Debugger(stream, rows)
+    def __init__(self, stream):
+        self.debugger = runs.Debugger(stream)
         self.before = runs.Engine(viewed=True).state.view()
 
     def stopped(self, word):

@@ -33,8 +33,7 @@ class Item(NamedTuple):
 
 
 class Engine:
-    def __init__(self, rows=table.BUILT_ROWS, viewed=False):
-        self.rows = rows
+    def __init__(self, viewed=False):
         self.viewed = viewed
         self.state = State()
         self.new_page()
@@ -72,7 +71,7 @@ class Engine:
             self.state.definition.append(command)
         elif not self.state.hpgl or passes_hpgl(command):
             row = table.row_of(command)
-            if row is not None and row.name in self.rows:
+            if row is not None:
                 self.row_counts[row.name] = self.row_counts.get(row.name, 0) + 1
                 yield from row.effect(self, command) or ()
 

@@ -69,13 +69,6 @@ def language_of_line(line):
     return pair[1]
 
 
-def asks_for_600(line):
-    """Whether a line sets the resolution, or its default, to 600."""
-    read = read_line(line)
-    return (read is not None and read.word in (b"SET", b"DEFAULT")
-            and assignment(read.rest) == (b"RESOLUTION", b"600"))
-
-
 def listed_value(name, value):
     """The value as it is kept, or None where it is none of the name's."""
     if name == b"COPIES":

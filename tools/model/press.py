@@ -2,7 +2,7 @@
 
 import json
 
-from . import json_text, runs, table, ticket, writer
+from . import json_text, runs, ticket, writer
 from .engine import Deliver
 from .job_queue import ABORTED, COMPLETED, RUNNING, Queue, Refused
 
@@ -14,12 +14,11 @@ DEFAULT_PRIORITY = 50
 
 # The parameters of each type, in their order; those after the bar may be absent.
 ENTRY = ["QueueEntryID"]
-SUSPEND = "SuspendQueueEntry"
 PARAMETERS = {
     "SubmitQueueEntry": ["Ticket", "|", "Priority"],
     "HoldQueueEntry": ENTRY,
     "ResumeQueueEntry": ENTRY,
-    SUSPEND: ENTRY,
+    "SuspendQueueEntry": ENTRY,
     "AbortQueueEntry": ENTRY,
     "RemoveQueueEntry": ENTRY,
     "SetQueueEntryPriority": ENTRY + ["Priority"],
@@ -82,9 +81,9 @@ class Context:
         self.items = None  # of the trace of its job, once begun
         self.place = 0
 
-    def begin(self, job_of, rows):
+    def begin(self, job_of):
         if self.items is None:
-            self.items = runs.trace(job_of(self), rows, viewed=False)
+            self.items = runs.trace(job_of(self), viewed=False)
 
 
 def plain_job(context):
@@ -118,7 +117,7 @@ def compact(fields):
     return json.dumps(fields, sort_keys=True, separators=(",", ":"), ensure_ascii=False).encode()
 
 
-def read_message(text, suspends=True):
+def read_message(text):
     """ID, type and the object of a message, or the answer to a faulty one."""
     try:
         message = json_text.read(text)
@@ -137,7 +136,7 @@ def read_message(text, suspends=True):
         raise Answer(MISSING, "", message_id)
     if not json_text.is_text(kind):
         raise Answer(BAD_MESSAGE, "", message_id)
-    if kind not in PARAMETERS or (kind == SUSPEND and not suspends):
+    if kind not in PARAMETERS:
         raise Answer(UNKNOWN_TYPE, kind, message_id)
     check_parameters(message, kind, message_id)
     return message_id, kind, message
@@ -154,23 +153,20 @@ def check_parameters(message, kind, message_id):
 
 
 class Press:
-    """Without suspension the message that asks for it is of an unknown type. The job of an entry may be any that prints its
-    ticket: how many steps it has depends on it. `upto` is the last group of what the press knows."""
+    """The job of an entry may be any that prints its ticket: how many steps it has depends on it."""
 
-    def __init__(self, suspends=True, job_of=plain_job, upto=table.BUILT, engines=1):
+    def __init__(self, job_of=plain_job, engines=1):
         if not 1 <= engines <= MOST_ENGINES:
             raise BadEngines()
         self.engines = [None] * engines  # the number of the entry that each runs
         self.queue = Queue()
         self.paused = False
         self.contexts = {}
-        self.suspends = suspends
         self.job_of = job_of
-        self.upto = upto
 
     def message(self, text, images=()):
         try:
-            message_id, kind, message = read_message(text, self.suspends)
+            message_id, kind, message = read_message(text)
             try:
                 added = self.do(kind, message, list(images))
             except Refused as refused:
@@ -203,7 +199,7 @@ class Press:
         return self.do_to_entry(kind, message)
 
     def submit(self, message, images):
-        read = ticket.ticket_of(message["Ticket"], self.upto)
+        read = ticket.ticket_of(message["Ticket"])
         ticket.check(read, images)
         number = self.queue.submit(message.get("Priority", DEFAULT_PRIORITY))
         self.contexts[number] = Context(message["Ticket"], read, images)
@@ -221,7 +217,7 @@ class Press:
             return {"Status": "Removed"}
         else:
             calls = {"HoldQueueEntry": self.queue.hold, "ResumeQueueEntry": self.queue.resume,
-                     SUSPEND: self.queue.suspend, "AbortQueueEntry": self.queue.abort}
+                     "SuspendQueueEntry": self.queue.suspend, "AbortQueueEntry": self.queue.abort}
             calls[kind](number)
         return {}
 
@@ -269,7 +265,7 @@ class Press:
             return None, 0
         self.engines[engine] = entry.number
         context = self.contexts[entry.number]
-        context.begin(self.job_of, table.rows_up_to(self.upto))
+        context.begin(self.job_of)
         steps = min(most, len(context.items) - context.place)
         for item in context.items[context.place:context.place + steps]:
             self.hand_out(entry, context, item, sink)

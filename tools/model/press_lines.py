@@ -10,7 +10,7 @@ import os
 from pathlib import Path
 from typing import NamedTuple, Optional
 
-from . import pbm, table
+from . import pbm
 from .press import BadEngines, NoEngine, Press, Sink, SinkFault, entry_name
 
 READ_FAULT, IMAGE_READ_FAULT = 304, 114
@@ -123,12 +123,12 @@ def told(fault):
     return "fault %d\n" % fault.number
 
 
-def played(words, script, folder=".", made=Press, **others):
+def played(words, script, folder=".", **others):
     """Status, standard output and standard error of the program with these words behind `press`. And what carried out the lines,
     or None."""
     asked = asked_by(words)
     try:
-        at = made(engines=asked.engines, **others)
+        at = Press(engines=asked.engines, **others)
         if asked.template is not None:
             check_template(asked.template)
     except (BadEngines, BadTemplate) as fault:
@@ -211,7 +211,7 @@ class Lines:
             return WHAT
         if words[0] == b"message" and len(words) > 1:
             return self.message(*map(os.fsdecode, words[1:]))
-        if words[0] == b"turn" and len(words) in self.lengths_of_turns():
+        if words[0] == b"turn" and len(words) in (2, 3):
             most, engine = number_of(words[1]), number_of(words[2]) if len(words) == 3 else 0
             return WHAT if None in (most, engine) else self.turn(engine, most)
         operators = {b"pause": self.press.pause, b"continue": self.press.carry_on, b"abort": self.press.abort_running}
@@ -219,10 +219,6 @@ class Lines:
             return WHAT
         operators[line]()
         return "ok"
-
-    def lengths_of_turns(self):
-        """How many words the line of a turn has."""
-        return (2, 3) if table.includes(self.press.upto, "engines") else (2,)
 
     def turn(self, engine, most):
         """The files that the turn made are told in front of it."""

@@ -9,14 +9,12 @@ if __package__ in (None, ""):
     # Run as a script: the package's folder leaves the path, so that no module of it hides a standard one.
     sys.path[0] = str(Path(__file__).resolve().parent.parent)
 
-from model import pages, pbm, runs, table  # noqa: E402
+from model import pages, pbm, runs  # noqa: E402
 
 
 def parser():
     words = argparse.ArgumentParser(description=__doc__)
     words.add_argument("file", nargs="?", default="-", help="the stream; - is standard input")
-    words.add_argument("--upto", choices=table.GROUPS, default=table.BUILT,
-                       help="the last group of table rows that exists")
     words.add_argument("--state", action="store_true", help="prints the fields at the end, too")
     words.add_argument("--trace", action="store_true", help="prints a line for each table step")
     words.add_argument("--pages", metavar="TEMPLATE",
@@ -37,11 +35,10 @@ def write_pages(sheets, template):
 def main():
     words = parser().parse_args()
     stream = read(words.file)
-    rows = table.rows_up_to(words.upto)
-    outcome = runs.run_stream(stream, rows)
+    outcome = runs.run_stream(stream)
     out = sys.stdout.buffer
     if words.trace:
-        for item in runs.trace(stream, rows):
+        for item in runs.trace(stream):
             out.write(b"%d depth %d %s %s x %d y %d outputs %d\n" % (
                 item.step, item.depth, item.kind.encode(), item.last.encode(),
                 item.view["x"], item.view["y"], len(item.outputs)))

@@ -2,12 +2,11 @@
 
 from .commands import Uel, closed
 from .engine import Deliver, Engine, Reply
-from .table import BUILT_ROWS
 
 
-def trace(stream, rows=BUILT_ROWS, viewed=True):
+def trace(stream, viewed=True):
     """The items of a stream at its end, after item 0: the universal exit is added."""
-    engine = Engine(rows, viewed)
+    engine = Engine(viewed)
     items = []
     for command in closed(stream) + [Uel()]:
         items += engine.steps(command)
@@ -24,17 +23,17 @@ class Outcome:
             output.reply for output in engine.outputs if isinstance(output, Reply))
 
 
-def run_commands(commands, rows=BUILT_ROWS):
-    engine = Engine(rows)
+def run_commands(commands):
+    engine = Engine()
     for command in commands:
         for _ in engine.run(command):
             pass
     return Outcome(engine)
 
 
-def run_stream(stream, rows=BUILT_ROWS):
+def run_stream(stream):
     """A stream with its end."""
-    return run_commands(closed(stream) + [Uel()], rows)
+    return run_commands(closed(stream) + [Uel()])
 
 
 class Counted(Outcome):
@@ -46,8 +45,8 @@ class Counted(Outcome):
         self.deepest = deepest
 
 
-def count_rows(stream, rows=BUILT_ROWS):
-    engine = Engine(rows)
+def count_rows(stream):
+    engine = Engine()
     deepest = 0
     for command in closed(stream) + [Uel()]:
         for _ in engine.run(command):
@@ -58,8 +57,8 @@ def count_rows(stream, rows=BUILT_ROWS):
 class Debugger:
     """Stops on a trace. A breakpoint is a test on an item and on the number of sheets delivered by then."""
 
-    def __init__(self, stream, rows=BUILT_ROWS):
-        self.items = trace(stream, rows)
+    def __init__(self, stream):
+        self.items = trace(stream)
         self.place = 0
         self.breaks = {}
 

@@ -8,8 +8,9 @@ each makes files of the sides, lists sums, and goes on behind lines that are wro
 import json
 from typing import NamedTuple
 
-from . import job_queue, table, ticket
+from . import job_queue, ticket, tickets
 from .pages import SIZES
+from .tickets import PLAIN, object_of, spelled
 
 MIXED, LONG, FULL, FAULTY, FLIGHT = "mixed", "long", "full", "faulty", "flight"
 ENTRIES_OF_A_FULL_QUEUE = 64
@@ -76,33 +77,20 @@ class Link(NamedTuple):
     target: str
 
 
-def spelled(value):
-    return json.dumps(value)
-
-
-def object_of(members, separators=(",", ":")):
-    """An object of keys and spelled values, in this order."""
-    comma, colon = separators
-    return ("{" + comma.join(spelled(key) + colon + value for key, value in members) + "}").encode()
-
-
 class Maker:
     """Makes a session of so many events, at whose end queue and device are asked for; `kind` says which. `files` are by name,
-    and None for a folder, or a link. `upto` is the last group of what the press knows."""
+    and None for a folder, or a link."""
 
-    def __init__(self, maker, events, upto=table.BUILT):
+    def __init__(self, maker, events):
         self.maker = maker
         self.events = events
-        self.upto = upto
         self.files = {}
         self.lines = []
         self.submitted = 0
         self.held = ["Q1"]  # entries that were to be held
         self.end = b""
-        self.with_engines = table.includes(upto, "engines")
-        kinds = [MIXED, LONG, FULL, FAULTY] + ([FLIGHT] if self.with_engines else [])
-        self.kind = maker.choices(kinds, [70, 14, 6, 10, 30][:len(kinds)])[0]
-        self.words = self.engine_words() if self.with_engines else []
+        self.kind = maker.choices([MIXED, LONG, FULL, FAULTY, FLIGHT], [70, 14, 6, 10, 30])[0]
+        self.words = self.engine_words()
         self.engines = int(self.words[1]) if self.words else 1
         self.flight = Flight(self.engines)
 
@@ -172,7 +160,7 @@ class Maker:
         """Jobs whose sides have names twice, and turns that print them."""
         image = [self.image()]
         copies = [COPIES_OF_THE_FIRST] + [1] * 10
-        texts = [self.submission_text(self.plain_members() | {"Amount": amount}, []) for amount in copies]
+        texts = [self.submission_text(PLAIN | {"Amount": amount}, []) for amount in copies]
         return [self.message(text, image) for text in texts] + [b"turn %d" % GREATEST_NUMBER] * len(copies)
 
     def lines_of_sides(self, template):
@@ -182,7 +170,7 @@ class Maker:
             return []
         if self.chance(0.5):
             self.files[name] = self.image()
-        text = self.file("m", self.submission_text(self.plain_members(), []))
+        text = self.file("m", self.submission_text(PLAIN, []))
         first, image = self.pick([(name, None), (text, name), (text, name)])
         return [" ".join(["message", first] + ([image] if image else [])).encode()]
 
@@ -229,7 +217,7 @@ class Maker:
         many = str(self.pick(MANY_STEPS))
         words = ["0", "1", "3", "003", many]
         line = b"turn " + self.maker.choices(words, [2, 4, 4, 1, 30 if self.kind == LONG else 8])[0].encode()
-        return line + (self.engine() if self.with_engines else b"")
+        return line + self.engine()
 
     def engine(self):
         """An engine that there is, or none for the first one."""
@@ -238,7 +226,7 @@ class Maker:
         return b" " + self.pick([b"", b"", b"", b"0"]) + b"%d" % self.maker.randrange(max(1, min(self.engines, 4)))
 
     def submit_many(self):
-        text, image = self.submission_text(self.plain_members() | {"Amount": 2}, []), [self.image()]
+        text, image = self.submission_text(PLAIN | {"Amount": 2}, []), [self.image()]
         for _ in range(ENTRIES_TO_BEGIN):
             self.lines.append(self.message(text, image))
             self.submitted += 1
@@ -259,14 +247,14 @@ class Maker:
         return self.maker.choices([b"pause", b"continue", b"abort"], [2, 4, 2])[0]
 
     def no_event(self):
-        if self.with_engines and self.chance(0.4):
+        if self.chance(0.4):
             return self.pick(NO_TURNS_OF_ENGINES)
         return self.pick(NO_EVENTS)
 
     def faulty_line(self):
         """A message with a file that is missing, cannot be read, or is no image; or with several of these. Or an engine that there
         is not."""
-        if self.with_engines and self.chance(0.4):
+        if self.chance(0.4):
             number = self.pick([self.engines, self.engines, 4, 255, 256, GREATEST_NUMBER])
             return b"turn %s %d" % (self.pick([b"0", b"1", b"1000000"]), number)
         text = self.file("m", self.submission_text(self.members(), []))
@@ -277,13 +265,13 @@ class Maker:
         return " ".join(["message", first, *images]).encode()
 
     def fill_queue(self):
-        texts = [(self.submission_text(self.plain_members(), [("Priority", str(priority))] if priority != 50 else []))
+        texts = [(self.submission_text(PLAIN, [("Priority", str(priority))] if priority != 50 else []))
                  for priority in (50, 50, 7, 80)]
         image = [self.image()]
         for _ in range(ENTRIES_OF_A_FULL_QUEUE):
             self.lines.append(self.message(self.pick(texts), image))
             self.submitted += 1
-        for text in [texts[0], self.submission_text(self.plain_members(), [("Priority", "101")])]:
+        for text in [texts[0], self.submission_text(PLAIN, [("Priority", "101")])]:
             self.lines.append(self.message(text, image))
             self.lines.append(self.message(self.text_of("QueueStatus", [])))
 
@@ -380,13 +368,9 @@ class Maker:
 
     # Submissions
 
-    def plain_members(self):
-        return {"Version": "1.5", "Type": "DigitalPrinting", "JobID": "J", "NPage": 1, "Amount": 1}
-
     def members(self):
         count = self.pick([1, 1, 1, 2, 2, 3])
-        members = self.plain_members()
-        members |= {"JobID": self.pick(["J", "a job", "~" * 63]), "NPage": count, "Amount": self.pick([1, 1, 1, 2, 3])}
+        members = PLAIN | {"JobID": self.pick(["J", "a job", "~" * 63]), "NPage": count, "Amount": self.pick([1, 1, 1, 2, 3])}
         if self.chance(0.3):
             members["RunList"] = [[self.maker.randint(-count, count - 1) for _ in range(2)] for _ in range(self.maker.randint(1, 3))]
         members["Media"] = self.maker.choices(list(SIZES), [4, 1, 2, 6, 1, 1])[0]
@@ -396,17 +380,12 @@ class Maker:
             members["Sides"] = self.pick(ticket.SIDES)
         if self.chance(0.5):
             members["Collate"] = self.pick([True, False])
-        if table.includes(self.upto, "resolution") and self.chance(0.5):
+        if self.chance(0.5):
             members["Resolution"] = self.pick([300, 600, 600])
         return members
 
     def submission_text(self, members, others):
-        """The members of the ticket in any order; a value that is a text of JSON already is of bytes."""
-        names = list(members)
-        self.maker.shuffle(names)
-        values = [members[name] for name in names]
-        texts = [value.decode() if isinstance(value, bytes) else spelled(value) for value in values]
-        return self.text_of("SubmitQueueEntry", [("Ticket", object_of(zip(names, texts)).decode()), *others])
+        return self.text_of("SubmitQueueEntry", [("Ticket", tickets.text_of(self.maker, members).decode()), *others])
 
     def legal_submission(self):
         members = self.members()
@@ -420,7 +399,7 @@ class Maker:
         images = [self.image() for _ in range(members["NPage"])]
         pick = self.maker.randrange(9)
         if pick < 5:
-            self.spoil(members)
+            tickets.spoil(self.maker, members)
         if pick == 5:
             images.pop()
         if pick == 6:
@@ -433,27 +412,6 @@ class Maker:
             text = self.text_of("SubmitQueueEntry", self.spoilt([("Ticket", self.pick(OTHER_KINDS)), *others]))
         return self.message(text, images)
 
-    def spoil(self, members):
-        change = self.maker.randrange(9 if table.includes(self.upto, "resolution") else 8)
-        if change == 8:
-            members["Resolution"] = self.pick([0, 150, 450, 1200, "600", None, True, b"600.0", b"6e2", b"-600", [600]])
-        elif change == 0:
-            del members[self.pick(list(members))]
-        elif change == 1:
-            members[self.pick(["Copies", "amount", "", "~", "\u00e9", "Resolution"])] = 1
-        elif change == 2:
-            members[self.pick(list(members))] = self.pick([None, "x", 1.5, [], [[0, 0, 0]], -1, b"-0", b"1e0", b"18446744073709551616"])
-        elif change == 3:
-            members["Type"] = "Folding"
-        elif change == 4:
-            members["NPage"] = self.pick([0, -1, 1000, b"18446744073709551615"])
-        elif change == 5:
-            members["Amount"] = self.pick([0, -1, 10000, b"-9223372036854775808"])
-        elif change == 6:
-            members["RunList"] = self.pick([[[0, 3]], [[-4, 0]], [[0, 0]] * 65, [], [[0, -1]] * 64, [[0]], [[0, 0.5]], [["0", 0]]])
-        else:
-            members["JobID"] = self.pick(["", "J" * 64, "\n", "\u00e9", "\x7f"])
-
     # Images
 
     def image(self):
@@ -462,20 +420,9 @@ class Maker:
         if len(known) >= 6 and self.chance(0.9):
             return self.pick(known)
         width, height = self.maker.randint(1, 70), self.maker.randint(1, 12)
-        row_bytes = (width + 7) // 8
-        rows = []
-        for _ in range(height):
-            pick = self.maker.random()
-            if pick < 0.3 and rows:
-                rows.append(rows[-1])
-            elif pick < 0.6:
-                rows.append(bytes(row_bytes))
-            elif pick < 0.75:
-                rows.append(bytes([self.maker.randrange(256)]) * row_bytes)
-            else:
-                rows.append(self.maker.randbytes(row_bytes))
+        rows = tickets.rows(self.maker, width, height)
         header = self.maker.choices([b"P4\n%d %d\n", b"P4#\r%d# 9 9\n %d\t", b"P4 0%d\n\n#\n#\n00%d "], [8, 1, 1])[0] % (width, height)
-        return header + b"".join(rows) + (b"more" if self.chance(0.1) else b"")
+        return header + rows + (b"more" if self.chance(0.1) else b"")
 
     def large_image(self, media, resolution):
         """As wide or as tall as the logical page, or a dot more, or both."""

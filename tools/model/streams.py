@@ -1,10 +1,8 @@
 """Random streams. A stream is a list of pieces, each the bytes of a few commands, so that it can be shrunk.
 
-The pieces are weighted so that every row of the table up to a group of rows is reached, by legal and illegal values,
+The pieces are weighted so that every row of the table is reached, by legal and illegal values,
 with signs and fractions, combined and cut, with data, and in every mode of the scanner.
 """
-
-from .table import GROUPS
 
 ESC = b"\x1b"
 UEL = b"\x1b%-12345X"
@@ -40,10 +38,6 @@ COMMANDS = {
         (b"*v", b"T", "six"), (b"*v", b"T", "six"), (b"*v", b"N", "two"), (b"*v", b"O", "two"),
     ] + [(b"*c", b"P", "six")] * 4 + [(b"*c", b"W", "pattern")] * 3,
     "macros": [(b"&f", b"Y", "id")] * 3 + [(b"&f", b"X", "macro")] * 6,
-    "jobs": [],
-    "resolution": [],
-    "adaptive": [],
-    "engines": [],
 }
 VALUES = {
     "zero": [b"0", b"", b"0", b"-0", b"+.9"],
@@ -82,24 +76,18 @@ PJL_PAIRS = [
     (b"RESOLUTION", [b"300", b"0300", b"450"]),
     (b"FOO", [b"1"]),
 ]
-# From the group of the resolution on.
-RESOLUTION_PAIRS = [(b"RESOLUTION", [b"600", b"600", b"600", b"300", b"0600", b"601", b"600.0", b"1200"])] * 5
+SET_PAIRS = PJL_PAIRS + [(b"RESOLUTION", [b"600", b"600", b"600", b"300", b"0600", b"601", b"600.0", b"1200"])] * 5
 
 
 class Maker:
-    def __init__(self, random, upto):
+    def __init__(self, random):
         self.random = random
-        groups = GROUPS[:GROUPS.index(upto) + 1]
-        self.groups = groups
         self.in_body = False  # of a macro: hardly ever an exit, which would end the definition
-        self.commands = {group: COMMANDS[group] for group in groups if COMMANDS[group]}
-        self.unbuilt = [command for group in GROUPS if group not in groups for command in COMMANDS[group]]
-        self.pjl_pairs = PJL_PAIRS + (RESOLUTION_PAIRS if "resolution" in groups else [])
 
     def stream(self):
         """The pieces of a stream."""
         pieces = []
-        if "resolution" in self.groups and self.chance(0.6):
+        if self.chance(0.6):
             pieces.append(UEL + b"@PJL SET RESOLUTION=600\n")
         if self.random.random() < 0.4:
             pieces += self.prologue()
@@ -118,25 +106,11 @@ class Maker:
         makers = [
             (48, self.sequence), (14, self.box), (8, self.control), (4, self.escape), (2, self.text),
             (2, self.broken), (2, self.noise), (2, self.foreign_command), (2, self.skipped_data),
-            (2, self.exit_and_lines), (8, self.probe),
+            (2, self.exit_and_lines), (8, self.probe), (2, self.hpgl), (3, self.stacked), (3, self.motion_then_lines),
+            (3, self.margins), (3, self.two_sided), (14, self.raster), (4, self.raster_over), (8, self.patterned),
+            (2, self.lasting_pattern), (12, self.macro), (2, self.lasting_macro), (2, self.call_over_pages),
+            (2, self.call_over_top_margins), (8, self.exit_and_lines), (5, self.other_resolution), (14, self.adaptive),
         ]
-        if "pages" in self.groups:
-            makers += [(2, self.hpgl), (3, self.stacked), (3, self.motion_then_lines), (3, self.margins),
-                       (3, self.two_sided)]
-        if "raster" in self.groups:
-            makers += [(14, self.raster), (4, self.raster_over)]
-        if "patterns" in self.groups:
-            makers += [(8, self.patterned)]
-            makers += [(2, self.lasting_pattern)]
-        if "macros" in self.groups:
-            makers += [(12, self.macro), (2, self.lasting_macro), (2, self.call_over_pages),
-                       (2, self.call_over_top_margins)]
-        if "jobs" in self.groups:
-            makers += [(8, self.exit_and_lines)]
-        if "resolution" in self.groups:
-            makers += [(5, self.other_resolution)]
-        if "adaptive" in self.groups:
-            makers += [(14, self.adaptive)]
         if self.in_body and not self.chance(0.02):
             makers = [(weight, call) for weight, call in makers if call not in (self.exit_and_lines, self.other_resolution)]
         weights, calls = zip(*makers)
@@ -176,14 +150,14 @@ class Maker:
 
     def sequence(self):
         """Each group as often as it has commands, but none for less than eight."""
-        groups = list(self.commands)
-        weights = [max(8, len(self.commands[group])) for group in groups]
+        groups = list(COMMANDS.values())
+        weights = [max(8, len(group)) for group in groups]
         group = self.random.choices(groups, weights)[0]
-        return self.combined(self.random.choice(self.commands[group]))
+        return self.combined(self.random.choice(group))
 
     def combined(self, command):
         head = command[0]
-        same = [other for commands in self.commands.values() for other in commands if other[0] == head]
+        same = [other for commands in COMMANDS.values() for other in commands if other[0] == head]
         count = 1 if head == b"%" or self.chance(0.5) else self.random.randint(1, 4)
         pairs = [command] + [self.random.choice(same) for _ in range(count - 1)]
         self.random.shuffle(pairs)
@@ -226,10 +200,7 @@ class Maker:
             self.random.randrange(256)]) for _ in range(self.random.randint(1, 12)))
 
     def foreign_command(self):
-        """A command that has no row yet, or never."""
-        if self.unbuilt and self.chance(0.7):
-            head, end, kind = self.random.choice(self.unbuilt)
-            return ESC + head + self.pair((head, end, kind), True)
+        """A command that has no row."""
         head = self.random.choice([b"(s", b")s", b"&d", b"&p", b"*o", b"(", b"%", b"*z", b"!a"])
         end = self.random.choice(LETTERS.replace(b"W", b""))
         if head == b"%" and end == ord("X"):
@@ -274,7 +245,7 @@ class Maker:
         return b"@PJL INQUIRE COPIES".ljust(length) + b"\n"
 
     def rest_of_line(self, word):
-        name, values = self.random.choice(self.pjl_pairs)
+        name, values = self.random.choice(SET_PAIRS)
         if word in (b"SET", b"DEFAULT"):
             value = self.mixed(self.random.choice(values))
             equals = b"=" if self.chance(0.95) else b""
@@ -379,17 +350,8 @@ class Maker:
         return ESC + b"*c65535a65535b0P"
 
     def probe(self):
-        probes = [self.shown_cursor, self.shown_cursor, self.shown_unit]
-        if "pages" in self.groups:
-            probes += [self.shown_motion, self.shown_stack, self.shown_line_end]
-        if "raster" in self.groups:
-            probes += [self.shown_raster] * 2
-        if "patterns" in self.groups:
-            probes += [self.shown_pattern] * 2
-        if "macros" in self.groups:
-            probes += [self.shown_macro]
-        if "jobs" in self.groups:
-            probes += [self.shown_job]
+        probes = [self.shown_cursor, self.shown_cursor, self.shown_unit, self.shown_motion, self.shown_stack, self.shown_line_end,
+                  self.shown_raster, self.shown_raster, self.shown_pattern, self.shown_pattern, self.shown_macro, self.shown_job]
         return self.random.choice(probes)()
 
     def shown_unit(self):

@@ -2,10 +2,6 @@
 
 An effect is a function of engine and command. Where it can close a page or start a body it is a generator, which
 the engine runs step by step; else it gives None.
-
-Rows came into the press in groups, named in GROUPS. `rows_up_to` gives the names of the rows of a group and of
-those before it, so that the model can stand for a press that lacks the later ones. BUILT is the last group that the
-program has: where nothing else is asked for, the model stands for that press. A group may have no rows.
 """
 
 from typing import Callable, NamedTuple
@@ -24,14 +20,10 @@ STACK_PLACES = 20
 LINES_PER_INCH = [1, 2, 3, 4, 6, 8, 12, 16, 24, 48]
 PAGE_SIZES = {1: "Executive", 2: "Letter", 3: "Legal", 6: "Ledger", 26: "A4", 27: "A3"}
 RASTER_RESOLUTIONS = {300: (75, 100, 150, 300), 600: (75, 100, 150, 200, 300, 600)}  # by that of the engine
-GROUPS = ["boxes", "pages", "raster", "patterns", "macros", "jobs", "resolution", "adaptive", "engines"]
-BUILT = "engines"
-WITH_TICKETS = GROUPS[GROUPS.index("jobs"):]
 
 
 class Row(NamedTuple):
     name: str
-    group: str
     effect: Callable
 
 
@@ -338,12 +330,8 @@ def raster_off_and_plain(engine, _command):
 
 
 def raster_method(engine, command):
-    if number(command) in (0, 1, 2, 3):
+    if number(command) in (0, 1, 2, 3, rows.ADAPTIVE):
         engine.state.method = number(command)
-
-
-def adaptive_method(engine, _command):
-    engine.state.method = rows.ADAPTIVE
 
 
 def skip_rows(engine, command):
@@ -464,86 +452,70 @@ def pjl_line(engine, command):
 # The rows. A parameterized command is spelled as character, group and end.
 
 CONTROLS = {
-    0x0D: Row("CR", "pages", carriage_return),
-    0x0A: Row("LF", "pages", line_feed),
-    0x0C: Row("FF", "boxes", form_feed),
+    0x0D: Row("CR", carriage_return),
+    0x0A: Row("LF", line_feed),
+    0x0C: Row("FF", form_feed),
 }
 ESCAPES = {
-    "=": Row("ESC =", "pages", half_line_feed),
-    "9": Row("ESC 9", "pages", clear_margins),
-    "E": Row("ESC E", "boxes", leave),
+    "=": Row("ESC =", half_line_feed),
+    "9": Row("ESC 9", clear_margins),
+    "E": Row("ESC E", leave),
 }
 PARAMS = {
-    "%B": ("pages", hpgl_on),
-    "%A": ("pages", hpgl_off),
-    "&uD": ("pages", unit_of_measure),
-    "&aC": ("pages", to_column),
-    "&aR": ("pages", to_row),
-    "&aH": ("pages", across_decipoints),
-    "&aV": ("pages", down_decipoints),
-    "*pX": ("boxes", across_units),
-    "*pY": ("boxes", down_units),
-    "&fS": ("pages", push_or_pop),
-    "&kG": ("pages", line_termination),
-    "&kH": ("pages", column_width),
-    "&lC": ("pages", row_height),
-    "&lD": ("pages", lines_per_inch),
-    "&lE": ("pages", top_margin),
-    "&lF": ("pages", text_length),
-    "&lL": ("pages", perforation_skip),
-    "&aL": ("pages", left_margin),
-    "&aM": ("pages", right_margin),
-    "&lA": ("pages", page_size),
-    "&lO": ("pages", orientation),
-    "&lS": ("pages", sides),
-    "&lH": ("pages", eject),
-    "&aG": ("pages", side_selection),
-    "&lX": ("pages", copies),
-    "*tR": ("raster", raster_resolution),
-    "*rS": ("raster", source_width),
-    "*rT": ("raster", source_height),
-    "*rA": ("raster", raster_on),
-    "*rB": ("raster", raster_off),
-    "*rC": ("raster", raster_off_and_plain),
-    "*bM": ("raster", raster_method),
-    "*bY": ("raster", skip_rows),
-    "*bW": ("raster", raster_row),
-    "*cA": ("boxes", rectangle("rectangle_width", lambda state: state.unit_positions())),
-    "*cB": ("boxes", rectangle("rectangle_height", lambda state: state.unit_positions())),
-    "*cH": ("patterns", rectangle("rectangle_width", lambda state: DECIPOINT)),
-    "*cV": ("patterns", rectangle("rectangle_height", lambda state: DECIPOINT)),
-    "*cG": ("patterns", pattern_id),
-    "*cW": ("patterns", define_pattern),
-    "*cQ": ("patterns", pattern_control),
-    "*vT": ("patterns", current_pattern),
-    "*vN": ("patterns", source_transparency),
-    "*vO": ("patterns", pattern_transparency),
-    "&fY": ("macros", macro_id),
-    "&fX": ("macros", macro_control),
+    "%B": hpgl_on,
+    "%A": hpgl_off,
+    "&uD": unit_of_measure,
+    "&aC": to_column,
+    "&aR": to_row,
+    "&aH": across_decipoints,
+    "&aV": down_decipoints,
+    "*pX": across_units,
+    "*pY": down_units,
+    "&fS": push_or_pop,
+    "&kG": line_termination,
+    "&kH": column_width,
+    "&lC": row_height,
+    "&lD": lines_per_inch,
+    "&lE": top_margin,
+    "&lF": text_length,
+    "&lL": perforation_skip,
+    "&aL": left_margin,
+    "&aM": right_margin,
+    "&lA": page_size,
+    "&lO": orientation,
+    "&lS": sides,
+    "&lH": eject,
+    "&aG": side_selection,
+    "&lX": copies,
+    "*tR": raster_resolution,
+    "*rS": source_width,
+    "*rT": source_height,
+    "*rA": raster_on,
+    "*rB": raster_off,
+    "*rC": raster_off_and_plain,
+    "*bM": raster_method,
+    "*bY": skip_rows,
+    "*bW": raster_row,
+    "*cA": rectangle("rectangle_width", lambda state: state.unit_positions()),
+    "*cB": rectangle("rectangle_height", lambda state: state.unit_positions()),
+    "*cH": rectangle("rectangle_width", lambda state: DECIPOINT),
+    "*cV": rectangle("rectangle_height", lambda state: DECIPOINT),
+    "*cG": pattern_id,
+    "*cW": define_pattern,
+    "*cQ": pattern_control,
+    "*vT": current_pattern,
+    "*vN": source_transparency,
+    "*vO": pattern_transparency,
+    "&fY": macro_id,
+    "&fX": macro_control,
 }
-PARAMS = {key: Row(key, group, effect) for key, (group, effect) in PARAMS.items()}
-FILL_BLACK = Row("*cP 0", "boxes", fill_black)
-FILL_PATTERN = Row("*cP 1-5", "patterns", fill_pattern)
-ADAPTIVE_METHOD = Row("*bM 5", "adaptive", adaptive_method)
-UEL = Row("UEL", "boxes", leave)
-PJL_LINE = Row("PJL", "jobs", pjl_line)
-PJL_600 = Row("PJL RESOLUTION=600", "resolution", pjl_line)
+PARAMS = {key: Row(key, effect) for key, effect in PARAMS.items()}
+FILL_BLACK = Row("*cP 0", fill_black)
+FILL_PATTERN = Row("*cP 1-5", fill_pattern)
+UEL = Row("UEL", leave)
+PJL_LINE = Row("PJL", pjl_line)
 
-EVERY_ROW = [*CONTROLS.values(), *ESCAPES.values(), *PARAMS.values(),
-             FILL_BLACK, FILL_PATTERN, ADAPTIVE_METHOD, UEL, PJL_LINE, PJL_600]
-
-
-def includes(upto, group):
-    """Whether a press that has the groups up to one has another one."""
-    return GROUPS.index(group) <= GROUPS.index(upto)
-
-
-def rows_up_to(group):
-    """The names of the rows of a group and of those before it."""
-    return frozenset(row.name for row in EVERY_ROW if includes(group, row.group))
-
-
-BUILT_ROWS = rows_up_to(BUILT)
+EVERY_ROW = [*CONTROLS.values(), *ESCAPES.values(), *PARAMS.values(), FILL_BLACK, FILL_PATTERN, UEL, PJL_LINE]
 
 
 def row_of(command):
@@ -555,13 +527,11 @@ def row_of(command):
     if isinstance(command, Uel):
         return UEL
     if isinstance(command, PjlLine):
-        return PJL_600 if pjl.asks_for_600(command.line) else PJL_LINE
+        return PJL_LINE
     if isinstance(command, Param):
         group = "" if command.group is None else chr(command.group)
         key = chr(command.character) + group + chr(command.end)
         if key == "*cP":
             return FILL_BLACK if number(command) == 0 else FILL_PATTERN
-        if key == "*bM" and number(command) == rows.ADAPTIVE:
-            return ADAPTIVE_METHOD
         return PARAMS.get(key)
     return None

@@ -11,7 +11,7 @@ if __package__ in (None, ""):
     sys.path[0] = str(Path(__file__).resolve().parent.parent)
 
 from model import (  # noqa: E402
-    asm, commands, debug_lines, job_queue, other_blocks, pages, patterns, pbm, press, rows, runs, table, ticket, values, writer)
+    asm, commands, debug_lines, job_queue, other_blocks, pages, patterns, pbm, press, rows, runs, ticket, trace_lines, values, writer)
 from model.commands import (  # noqa: E402
     Broken, Control, Param, PjlLine, Text, Uel, closed, same_commands, split)
 from model.press_lines import played  # noqa: E402
@@ -40,8 +40,8 @@ def stream(text):
     return spelled
 
 
-def run(text, upto=table.BUILT):
-    return runs.run_stream(stream(text) if isinstance(text, str) else text, table.rows_up_to(upto))
+def run(text):
+    return runs.run_stream(stream(text) if isinstance(text, str) else text)
 
 
 def dots(columns, lines):
@@ -52,9 +52,9 @@ def span(first, last):
     return range(first, last + 1)
 
 
-def fronts(text, upto=table.BUILT):
+def fronts(text):
     """The black dots of each sheet's front."""
-    outcome = run(text, upto)
+    outcome = run(text)
     assert outcome.replies == b""
     assert all(sheet.back is None for sheet in outcome.sheets)
     return [sheet.front.black_dots() for sheet in outcome.sheets]
@@ -274,27 +274,24 @@ AT_600 = UEL + b"@PJL SET RESOLUTION=600\n"
 
 
 def fronts_at_600(text):
-    return fronts(AT_600 + stream(text), "resolution")
+    return fronts(AT_600 + stream(text))
 
 
 def test_box_at_600():
     text = AT_600 + stream("ESC E ESC*p0x0Y ESC*c3a2b0P ESC E")
-    assert fronts(text, "resolution") == [dots(span(150, 155), span(300, 303))]
-    outcome = run(text, "resolution")
+    assert fronts(text) == [dots(span(150, 155), span(300, 303))]
+    outcome = run(text)
     assert pages.listing(outcome.sheets, b"") == b"sheet 1 front 5100x6600 black 24\n"
     asked = text + UEL + b"@PJL INQUIRE RESOLUTION\n@PJL DINQUIRE RESOLUTION\n"
     answers = b"@PJL INQUIRE RESOLUTION\r\n%d\r\n\x0c@PJL DINQUIRE RESOLUTION\r\n300\r\n\x0c"
-    assert run(asked, "resolution").replies == answers % 600
-    # A press that lacks it passes the line over.
-    assert run(asked, "jobs").replies == answers % 300
-    assert fronts(text, "jobs") == [dots(span(75, 77), span(150, 151))]
+    assert run(asked).replies == answers % 600
 
 
 def test_rows_of_raster_at_600():
     row = "ESC*t200R ESC*r1A ESC*b1W [80] FF"
     assert fronts_at_600(row) == [dots(span(150, 152), span(375, 377))]
-    assert fronts(row, "resolution") == [dots(span(75, 78), span(187, 190))]
-    assert fronts(row.replace("200", "600"), "resolution") == [dots(span(75, 78), span(187, 190))]
+    assert fronts(row) == [dots(span(75, 78), span(187, 190))]
+    assert fronts(row.replace("200", "600")) == [dots(span(75, 78), span(187, 190))]
     # Two rows of one dot each, and a skipped one between them; x is 10 decipoints, 8 dots and 4 positions, y 0.
     text = "ESC&a10h0V ESC*t600R ESC*r1A ESC*b1W [80] ESC*b1Y ESC*b1W [80] FF"
     assert fronts_at_600(text) == [{(158, 300), (158, 302)}]
@@ -305,7 +302,7 @@ def test_rows_of_raster_at_600():
         assert fronts_at_600(text) == [expected], resolution
     # A row of no width of its own reaches to the end of the logical page, 4800 raster dots from its left.
     full = b"\x1b*p0x0Y\x1b*t600R\x1b*r1A\x1b*b700W" + b"\xff" * 700 + FF
-    assert fronts(AT_600 + full, "resolution") == [dots(span(150, 4949), [300])]
+    assert fronts(AT_600 + full) == [dots(span(150, 4949), [300])]
 
 
 def test_places_at_600():
@@ -326,7 +323,7 @@ def test_places_at_600():
 
 def test_resolution_stays_until_a_line_changes_it():
     def sizes(spelled):
-        return [[(side.width(), side.height()) for _, side in sheet.sides()] for sheet in run(spelled, "resolution").sheets]
+        return [[(side.width(), side.height()) for _, side in sheet.sides()] for sheet in run(spelled).sheets]
 
     at_600, sides = (5100, 6600), stream("ESC E") + UEL
     assert sizes(AT_600 + sides + FF + b"\x1b&l26A" + FF) == [[at_600], [(4960, 7014)]]
@@ -340,8 +337,8 @@ def test_resolution_stays_until_a_line_changes_it():
     macro = stream("ESC&f1y0X ESC*t600R ESC&f1X ESC&f10X ESC&f2X")
     fine = stream("ESC*p0x0Y ESC*r1A ESC*b1W [80] FF")
     coarse = UEL + b"@PJL SET RESOLUTION=300\n" + stream("ESC&f1y2X") + fine
-    assert fronts(AT_600 + macro + fine + coarse, "resolution") == [{(150, 300)}, dots(span(75, 78), span(150, 153))]
-    state = runs.run_commands(closed(AT_600), table.rows_up_to("resolution")).engine.state
+    assert fronts(AT_600 + macro + fine + coarse) == [{(150, 300)}, dots(span(75, 78), span(150, 153))]
+    state = runs.run_commands(closed(AT_600)).engine.state
     assert (state.resolution, state.logical_width(), state.logical_length()) == (600, 57600, 79200)
     assert (state.text_length, state.right_margin) == (72000, 57600)
 
@@ -357,10 +354,14 @@ def test_pages_at_600_are_doubled():
         assert fronts_at_600(text) == doubled and any(doubled), text
 
 
-def test_earlier_streams_stay():
+def test_traced_streams_print_the_same():
     for spelled in worked_streams():
-        older, newer = (run(spelled, upto) for upto in ("jobs", table.GROUPS[-1]))
-        assert pages.listing(older.sheets, older.replies) == pages.listing(newer.sheets, newer.replies)
+        teller = trace_lines.Teller()
+        last = [line["step"] for line in trace_lines.told_by(teller, spelled)][-1]
+        teller.engine.outputs = teller.outputs
+        traced, plain = runs.Outcome(teller.engine), run(spelled)
+        assert pages.listing(traced.sheets, traced.replies) == pages.listing(plain.sheets, plain.replies)
+        assert last == len(runs.trace(spelled)) == len(list(trace_lines.opened(spelled))) - 1
 
 
 # Adaptive rows
@@ -374,7 +375,7 @@ def adaptive(data, start="ESC*t300R ESC*r0A", end="FF"):
 def adaptive_rows(data, **around):
     """The bytes of the lines from 187 on, and how many rows there were."""
     text = adaptive(data, end="", **around)
-    state = runs.run_commands(closed(text), table.rows_up_to("adaptive")).engine.state
+    state = runs.run_commands(closed(text)).engine.state
     laid = [(state.page.lines.get(187 + line, 0) if state.page else 0) >> 75 for line in range(state.row_count)]
     return [bytes(sum(0x80 >> bit for bit in range(8) if columns >> 8 * place + bit & 1) for place in range(2)).hex()
             for columns in laid]
@@ -382,10 +383,7 @@ def adaptive_rows(data, **around):
 
 def test_adaptive_rows():
     text = adaptive("00 00 01 FF 05 00 02 04 00 01 03 00 02 00 81")
-    assert fronts(text, "adaptive") == [dots(span(75, 82), span(187, 189)) | {(75, 191), (82, 191)}]
-    # A press that lacks the method stays at the one that it has.
-    assert fronts(text, "resolution") == fronts(text.replace(b"5m", b"0m"), "adaptive")
-    assert final_state(text, "resolution").method == 0
+    assert fronts(text) == [dots(span(75, 82), span(187, 189)) | {(75, 191), (82, 191)}]
 
 
 def test_blocks_of_each_kind():
@@ -413,12 +411,12 @@ def test_seed_of_blocks():
     for data, seed in [(after, "a55a"), (after + "04 00 01", "0000"), (after + "04 00 00", "0000"), (after + "05 00 00", "0000"),
                        (after + "05 00 02", "a55a"), (after + "05 00 00 06 00 00", "0000"), (after + "06 05 00 00", "a55a"),
                        (after + "05 00", "a55a"), (after + "00 00 00", "0000")]:
-        state = final_state(adaptive(data, begun, ""), "adaptive")
+        state = final_state(adaptive(data, begun, ""))
         assert state.seed.hex() == seed, data
     # The seed goes on over a change of method and into the next transfer.
-    assert fronts(adaptive("00 00 01 81", end="ESC*b3m0W ESC*b5m3W [05 00 01] ESC*b0W FF"), "adaptive") == [dots([75, 82], span(187, 189))]
+    assert fronts(adaptive("00 00 01 81", end="ESC*b3m0W ESC*b5m3W [05 00 01] ESC*b0W FF")) == [dots([75, 82], span(187, 189))]
     # `*b1Y` sets it to zero, and goes on by a row.
-    assert fronts(adaptive("00 00 01 81", end="ESC*b1Y ESC*b3W [05 00 01] ESC*b4W [00 00 01 80] FF"), "adaptive") == [{(75, 187), (82, 187), (75, 190)}]
+    assert fronts(adaptive("00 00 01 81", end="ESC*b1Y ESC*b3W [05 00 01] ESC*b4W [00 00 01 80] FF")) == [{(75, 187), (82, 187), (75, 190)}]
 
 
 def test_blocks_past_the_source_height():
@@ -427,28 +425,28 @@ def test_blocks_past_the_source_height():
                        ("00 00 01 FF  04 00 01  05 00 01  00 00 01 F0", "0000"), ("00 00 02 A5 5A  05 00 01  04 00 07", "a55a"),
                        ("00 00 02 A5 5A  05 00 09  04 00 00", "0000"), ("00 00 02 A5 5A  05 00 09  05 00 00", "0000"),
                        ("00 00 02 A5 5A  05 00 09  00 00 02 05 00 05 00 00", "0000")]:
-        state = final_state(adaptive(data, two_rows, ""), "adaptive")
+        state = final_state(adaptive(data, two_rows, ""))
         assert (state.seed.hex(), state.row_count, state.y) == (seed, 2, 900 + 48), data
-    skipped = final_state(adaptive("00 00 01 FF", two_rows + "ESC*b2Y", ""), "adaptive")
+    skipped = final_state(adaptive("00 00 01 FF", two_rows + "ESC*b2Y", ""))
     assert (skipped.seed, skipped.row_count, skipped.page, skipped.marked) == (bytes(2), 2, None, False)
-    assert final_state(adaptive("05 FF FF 04 00 05", end=""), "adaptive").row_count == 65535
-    most = final_state(adaptive("05 FF FF 00 00 01 FF", "ESC*t300R ESC*r8S ESC*r65535T ESC*r0A", ""), "adaptive")
+    assert final_state(adaptive("05 FF FF 04 00 05", end="")).row_count == 65535
+    most = final_state(adaptive("05 FF FF 00 00 01 FF", "ESC*t300R ESC*r8S ESC*r65535T ESC*r0A", ""))
     assert (most.row_count, most.seed, most.y) == (65535, bytes(1), 75600)
 
 
 def test_transfer_without_rows():
     # It still turns raster graphics on, so that the resolution stays; and marks nothing.
-    assert fronts("ESC*t300R ESC*b5m0W ESC*t75R ESC*b0m1W [80] FF", "adaptive") == [{(75, 187)}]
-    assert fronts("ESC*t300R ESC*b5m2W [00 00] ESC*t75R ESC*b0m1W [80] FF", "adaptive") == [{(75, 187)}]
-    assert fronts("ESC*b5m0W ESC*b3W [05 00 00] ESC E", "adaptive") == []
-    assert fronts("ESC*b5m3W [04 00 01] ESC E", "adaptive") == [set()]
-    state = final_state("ESC*p100X ESC*b5m0W", "adaptive")
+    assert fronts("ESC*t300R ESC*b5m0W ESC*t75R ESC*b0m1W [80] FF") == [{(75, 187)}]
+    assert fronts("ESC*t300R ESC*b5m2W [00 00] ESC*t75R ESC*b0m1W [80] FF") == [{(75, 187)}]
+    assert fronts("ESC*b5m0W ESC*b3W [05 00 00] ESC E") == []
+    assert fronts("ESC*b5m3W [04 00 01] ESC E") == [set()]
+    state = final_state("ESC*p100X ESC*b5m0W")
     assert (state.raster_on, state.x, state.y, state.row_count, state.marked) == (True, 0, 900, 0, False)
     # Each row is a mark of its own: an opaque source whitens, also by empty rows.
     text = "ESC*p0x0Y ESC*c16a4b0P ESC*p0Y ESC*t300R ESC*r8S ESC*v1N ESC*r1A ESC*b5m10W [00 00 01 F0 05 00 01 04 00 01] FF"
     box = dots(span(75, 90), span(150, 153)) - dots(span(79, 82), [150, 151]) - dots(span(75, 82), [152])
-    assert fronts(text, "adaptive") == [box]
-    assert len(runs.trace(stream(text), table.rows_up_to("adaptive"))) == 14
+    assert fronts(text) == [box]
+    assert len(runs.trace(stream(text))) == 14
 
 
 def random_blocks(source):
@@ -476,7 +474,7 @@ def test_blocks_by_a_second_decoder():
             continue
         text = b"\x1b*p0x0Y\x1b*t300R\x1b*r%dS" % (8 * width) + (b"\x1b*r%dT" % height if height else b"")
         text += b"\x1b*r0A\x1b*b0m%dW" % width + first + b"\x1b*b5m%dW" % len(data) + data
-        state = final_state(text, "adaptive")
+        state = final_state(text)
         laid = [first, *other.laid]
         assert state.seed == bytes(other.seed) and state.row_count == min(65535, len(laid)), data.hex()
         assert state.y == min(75600, 24 * len(laid))
@@ -628,7 +626,7 @@ def ticket_bytes(**changes):
 
 
 def job_sheets(read, images):
-    outcome = runs.run_stream(press.writer.job_of(read, images), table.rows_up_to("resolution"))
+    outcome = runs.run_stream(press.writer.job_of(read, images))
     assert outcome.replies == b""
     return [(sheet.front.black_dots(), sheet.back and sheet.back.black_dots()) for sheet in outcome.sheets]
 
@@ -648,9 +646,9 @@ def test_wanted_sheets():
 
 
 def test_tickets_at_600():
-    read = ticket.read_ticket(ticket_bytes(Resolution=600), "resolution")
+    read = ticket.read_ticket(ticket_bytes(Resolution=600))
     assert job_sheets(read, [IMAGE] * 3) == [({(150, 0)}, {(150, 0)}), ({(150, 0)}, None)] * 2
-    outcome = runs.run_stream(press.writer.job_of(read, [IMAGE] * 3), table.rows_up_to("resolution"))
+    outcome = runs.run_stream(press.writer.job_of(read, [IMAGE] * 3))
     assert pages.listing(outcome.sheets[:1], b"") == b"sheet 1 front 5100x6600 black 1\nsheet 1 back 5100x6600 black 1\n"
     assert ticket.wanted(read, [IMAGE] * 3) == job_sheets(read, [IMAGE] * 3)
     ticket.check(read, [IMAGE, (2401, ["1" * 2401]), IMAGE])
@@ -658,14 +656,13 @@ def test_tickets_at_600():
     refused(612, ticket.check, read, [IMAGE, (4801, ["1"] * 6601), IMAGE])
     refused(613, ticket.check, read, [IMAGE, (1, ["1"] * 6601), IMAGE])
     for resolution in [450, 0, 600.0, "600", True, [600]]:
-        fault = refused(602, ticket.read_ticket, ticket_bytes(Resolution=resolution, Amount=0), "resolution")
+        fault = refused(602, ticket.read_ticket, ticket_bytes(Resolution=resolution, Amount=0))
         assert fault.key == "Resolution"
-    assert refused(602, ticket.read_ticket, ticket_bytes(Resolution=450, Collate=1), "resolution").key == "Collate"
+    assert refused(602, ticket.read_ticket, ticket_bytes(Resolution=450, Collate=1)).key == "Collate"
     for changes in [{}, {"Resolution": 300}]:
-        assert ticket.read_ticket(ticket_bytes(**changes), "resolution") == ticket.read_ticket(ticket_bytes())
-    assert refused(602, ticket.read_ticket, ticket_bytes(Resolution=300), "jobs").key == "Resolution"
+        assert ticket.read_ticket(ticket_bytes(**changes)) == ticket.read_ticket(ticket_bytes())
     for media, width in [("A4", 2 * (2480 - 142)), ("Ledger", 6300), ("A3", 2 * (3507 - 142))]:
-        read = ticket.read_ticket(ticket_bytes(Resolution=600, Media=media, NPage=1, Amount=1), "resolution")
+        read = ticket.read_ticket(ticket_bytes(Resolution=600, Media=media, NPage=1, Amount=1))
         edge = [(width, ["0" * (width - 1) + "1"])]
         ticket.check(read, edge)
         assert job_sheets(read, edge) == ticket.wanted(read, edge)
@@ -768,13 +765,16 @@ def test_refused_messages():
     assert shown_state(at) == before
 
 
-def test_press_without_suspension():
-    at = press.Press(suspends=False)
+def test_suspensions_that_are_refused():
+    at = press.Press()
     at.message(submission(), [IMAGE])
+    assert code(at.message(message("SuspendQueueEntry", QueueEntryID="Q1"))) == 22
+    assert code(at.message(message("SuspendQueueEntry", QueueEntryID="Q2"))) == 21
     at.turn(1, press.Sink())
-    assert at.message(message("SuspendQueueEntry", QueueEntryID="Q1")) == answer(5, "SuspendQueueEntry")
-    assert at.message(message("SuspendQueueEntry")) == answer(5, "SuspendQueueEntry")
+    assert at.message(message("SuspendQueueEntry")) == answer(7, "SuspendQueueEntry")
     assert at.queue.entries[0].status == "Running"
+    assert code(at.message(message("SuspendQueueEntry", QueueEntryID="Q1"))) == 0
+    assert at.queue.entries[0].status == "Suspended"
 
 
 def test_states_that_messages_show():
@@ -976,8 +976,8 @@ def test_lines_of_engines():
         for name, content in files.items():
             (Path(place) / name).write_bytes(content)
 
-        def ended(words, lines, upto="engines"):
-            return played(words.split(), lines, place, upto=upto)[0]
+        def ended(words, lines):
+            return played(words.split(), lines, place)[0]
 
         assert ended("--engines 2", script) == (0, printed + listed, b"")
         for words, lines, told in [
@@ -989,8 +989,6 @@ def test_lines_of_engines():
         for line in [b"turn 1 x", b"turn 1 -1", b"turn 1 ", b"turn 1 0 ", b"turn 1  0", b"turn  0", b"turn 1 0 0", b"turn x 0",
                      b"turn 1 18446744073709551616", b"turn 18446744073709551616 9"]:
             assert ended("--engines 2", line) == (0, b"what?\n", b""), line
-        # A press without engines has no such turn.
-        assert ended("", b"turn 1 0\nturn 1 1", "adaptive") == (0, b"what?\n" * 2, b"")
 
 
 def refused_code(number, call, *arguments):
@@ -1014,7 +1012,7 @@ def session(script, files):
     """What the lines of a script print, with files of these contents; a file of no content is a folder."""
     with tempfile.TemporaryDirectory() as place:
         write_files(Path(place), files)
-        return played([], script, place, upto="jobs")[0]
+        return played([], script, place)[0]
 
 
 def test_lines_of_the_press():
@@ -1029,7 +1027,7 @@ def test_lines_of_the_press():
     printed = (b"turn - 0\n" + accepted % 1 + accepted % 2 + b"turn - 0\nturn Q1 %d\nok\nturn - 0\nok\nturn Q2 %d\nok\n" % tuple(steps))
     assert session(script, files) == (0, printed + twice + listed % (2, 1, b"front", 5), b"")
     assert session(b"", files) == (0, b"", b"")
-    for line in [b"", b" pause", b"pause ", b"turn", b"turn ", b"turn -1", b"turn 1 1", b"turn  1", b"turn 18446744073709551616",
+    for line in [b"", b" pause", b"pause ", b"turn", b"turn ", b"turn -1", b"turn  1", b"turn 18446744073709551616",
                  b"turn \xb2", b"message", b"Turn 1", b"\xff", b"ok"]:
         assert session(line + b"\npause\n", files) == (0, b"what?\nok\n", b"")
     for line in [b"turn 18446744073709551615", b"turn 000000000000000000000000", b"turn 007"]:
@@ -1097,13 +1095,13 @@ def test_failed_reply_after_two_sheets():
 
 # Readings that no example above reaches
 
-def final_state(text, upto):
+def final_state(text):
     spelled = stream(text) if isinstance(text, str) else text
-    return runs.run_commands(closed(spelled), table.rows_up_to(upto)).engine.state
+    return runs.run_commands(closed(spelled)).engine.state
 
 
 def final(text, name):
-    return final_state(text, table.BUILT).view()[name]
+    return final_state(text).view()[name]
 
 
 def test_fields_after_commands():

@@ -2,7 +2,7 @@
 
 from typing import NamedTuple
 
-from . import json_text, table
+from . import json_text
 from .pages import SIZES
 from .values import FACTORY_RESOLUTION
 
@@ -10,7 +10,8 @@ NOT_JSON, NOT_PROFILE, WRONG_PROCESS, BAD_RANGE, BAD_AMOUNT = 601, 602, 603, 604
 PAGE_MISSING, TOO_WIDE, TOO_TALL = 611, 612, 613
 
 REQUIRED = ["Version", "Type", "JobID", "NPage", "Amount"]
-OPTIONAL = {"RunList": "jobs", "Media": "jobs", "Sides": "jobs", "Collate": "jobs", "Resolution": "resolution"}  # by group
+OPTIONAL = ["RunList", "Media", "Sides", "Collate", "Resolution"]
+KEYS = REQUIRED + OPTIONAL  # in the order in which they are judged
 RESOLUTIONS = (300, 600)
 SIDES = ["OneSidedFront", "TwoSidedHeadToHead", "TwoSidedHeadToFoot"]
 MOST_PAGES = 999
@@ -23,14 +24,6 @@ class Refused(Exception):
         super().__init__(number, key)
         self.number = number
         self.key = key
-
-
-def keys_up_to(upto):
-    """The keys of tickets for a press that has the groups up to one, in the order in which they are judged."""
-    return REQUIRED + [key for key, group in OPTIONAL.items() if table.includes(upto, group)]
-
-
-KEYS = keys_up_to(table.BUILT)
 
 
 class Ticket(NamedTuple):
@@ -56,12 +49,12 @@ class Ticket(NamedTuple):
         return size.width - 2 * size.portrait_offset, size.height
 
 
-def read_ticket(text, upto=table.BUILT):
+def read_ticket(text):
     try:
         value = json_text.read(text)
     except json_text.NotJson:
         raise Refused(NOT_JSON) from None
-    return ticket_of(value, upto)
+    return ticket_of(value)
 
 
 def is_pair(value):
@@ -91,14 +84,13 @@ ADMITTED = {
 }
 
 
-def ticket_of(value, upto=table.BUILT):
+def ticket_of(value):
     if not isinstance(value, dict):
         raise Refused(NOT_JSON)
-    keys = keys_up_to(upto)
-    unknown = [key for key in value if key not in keys]
+    unknown = [key for key in value if key not in KEYS]
     if unknown:
         raise Refused(NOT_PROFILE, min(unknown, key=str.encode))
-    for key in keys:
+    for key in KEYS:
         if (key in REQUIRED and key not in value) or (key in value and not ADMITTED[key](value[key])):
             raise Refused(NOT_PROFILE, key)
     if value["Type"] != "DigitalPrinting":

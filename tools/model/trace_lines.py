@@ -10,7 +10,7 @@ import json
 from . import pages
 from .commands import EXIT, Uel, closing, head
 from .engine import RECORDED, Deliver, Engine
-from .table import BUILT_ROWS, PAGE_SIZES
+from .table import PAGE_SIZES
 
 SIZE_CODES = {name: number for number, name in PAGE_SIZES.items()}
 PAPER_CODES = {name.upper(): number for name, number in SIZE_CODES.items()}
@@ -163,8 +163,8 @@ def placed(stream):
 class Teller:
     """What the lines tell of an engine, from step to step."""
 
-    def __init__(self, rows):
-        self.engine = Watched(rows)
+    def __init__(self):
+        self.engine = Watched()
         self.view = None
         self.page = None
         self.outputs = []    # of all steps so far
@@ -194,9 +194,9 @@ class Teller:
         return opened | ({"page": patch} if patch else {})
 
 
-def steps(stream, rows=BUILT_ROWS):
+def steps(stream):
     """What each line tells, in order."""
-    return told_by(Teller(rows), stream)
+    return told_by(Teller(), stream)
 
 
 def told_by(teller, stream):
@@ -206,9 +206,9 @@ def told_by(teller, stream):
         yield teller.line(at, size)
 
 
-def opened(stream, rows=BUILT_ROWS):
+def opened(stream):
     """The open page behind each number of steps, from none on; a white one where none has a mark."""
-    engine = Engine(rows)
+    engine = Engine()
     yield pages.Bitmap(engine.state.size)
     for _, _, command in placed(stream):
         for _ in itertools.chain(engine.run(command), [None]):
@@ -220,5 +220,5 @@ def text_of(told):
     return (json.dumps(told, ensure_ascii=False, separators=(",", ":"), sort_keys=True).translate(CONTROLS) + "\n").encode()
 
 
-def lines(stream, rows=BUILT_ROWS):
-    return map(text_of, steps(stream, rows))
+def lines(stream):
+    return map(text_of, steps(stream))

@@ -3,7 +3,9 @@
 Who adds some raises the number in the same change; a tool that has more than stands there says so.
 """
 
+import argparse
 import json
+from pathlib import Path
 
 from . import program
 
@@ -39,3 +41,27 @@ def tell(tool, counts, wrong, whole=True):
     told = " ".join(f"{what.replace(' ', '-')}={count}" for what, count in counts.items())
     print(f"{tool}: {told} wrong={wrong + len(complaints)}")
     return 1 if wrong or complaints else 0
+
+
+def end(tool, counts, complaints, whole=True, most=None):
+    """Prints what is wrong, the first so many of it, and what a tool came to: its status."""
+    for complaint in complaints[:most]:
+        print(complaint)
+    return tell(tool, counts, len(complaints), whole)
+
+
+def part_words(about, parts):
+    """The words of a tool that tries its parts with the program."""
+    words = argparse.ArgumentParser(description=about.splitlines()[0])
+    words.add_argument("--program", type=Path, default=program.PROGRAM)
+    words.add_argument("--part", choices=parts, help="tries this alone")
+    return words
+
+
+def try_parts(tool, parts, part, chosen, more=lambda: ()):
+    """Tries the part that is asked for, or all, each of which is how many it tries and what gives its complaints; and what is more: the status."""
+    names = [part] if part else list(parts)
+    counts = {name: parts[name][0] for name in names}
+    if lacks(tool, counts, not part):
+        return 1
+    return end(tool, counts, [*(complaint for name in names for complaint in parts[name][1](chosen)), *more()], not part)

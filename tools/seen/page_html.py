@@ -20,11 +20,13 @@ def sizes():
 
 
 def filled(template, names, title, data):
-    """A page of its template: with its title, the scripts of these files, and what they show."""
+    """A page of its template, which is its style and its body: with its title, the scripts of these files, and what they show."""
+    style, _, body = template.read_text(encoding="utf-8").partition("<body>\n")
+    framed = (HERE / "frame.html").read_text(encoding="utf-8").replace("STYLE", style).replace("BODY", body)
     scripts = "\n".join(Path(name).read_text(encoding="utf-8").replace('"use strict";\n', "", 1) for name in names)
     places = {"TITLE": html.escape(title), "DATA": json.dumps(data, separators=(",", ":")).replace("<", "\\u003c"),
               "SCRIPTS": '"use strict";\n' + scripts, "COMMON": (HERE / "common.css").read_text(encoding="utf-8")}
-    return re.sub("TITLE|DATA|SCRIPTS|COMMON", lambda found: places[found[0]], template.read_text(encoding="utf-8"))
+    return re.sub("TITLE|DATA|SCRIPTS|COMMON", lambda found: places[found[0]], framed)
 
 
 def page(stream, front, chosen, name):

@@ -55,7 +55,7 @@ class Placer:
 
 
 ROWS = {}    # those that were asked for, by what chooses them
-BY_VALUE = (ord("c"), ord("P")), (ord("b"), ord("M"))
+BY_VALUE = [(ord("c"), ord("P"))]
 
 
 def row_of(command):

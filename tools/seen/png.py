@@ -41,12 +41,6 @@ def read_p4(data):
     return width, [b"".join(map(DOTS.__getitem__, row))[:width] if any(row) else blank for row in rows]
 
 
-def lines_of_side(side):
-    """Width and lines of a side of the model."""
-    table = bytes.maketrans(b"01", b"\0\1")
-    return side.width(), [row.encode().translate(table) for row in side.physical_rows()]
-
-
 def black_in_squares(width, lines, factor):
     """How many dots are black in each square of some lines, from the left.
 

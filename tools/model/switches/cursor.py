@@ -114,10 +114,10 @@ SWITCHES = [
     switch("cleared-margins-keep-the-left", "Cleared margins: the left one is 0.", "table", "    engine.state.left_margin = 0\n", ""),
     switch("cleared-margins-keep-the-right", "Cleared margins: the right one is the end of the logical page.", "table", "    engine.state.right_margin = engine.state.logical_width()\n", ""),
     switch("cleared-margins-move-the-cursor", "Cleared margins leave the cursor.", "table", "    engine.state.right_margin = engine.state.logical_width()\n", "    engine.state.right_margin = engine.state.logical_width()\n    engine.state.x = 0\n"),
-    switch("backspace-moves", "A backspace has no effect.", "table", "    0x0D: Row(", "    0x08: Row(\"CR\", \"pages\", lambda engine, _command: engine.state.move(engine.state.x - engine.state.hmi, engine.state.y)),\n    0x0D: Row("),
-    switch("tabulator-moves", "A horizontal tabulator has no effect.", "table", "    0x0D: Row(", "    0x09: Row(\"CR\", \"pages\", lambda engine, _command: engine.state.move(engine.state.x + 8 * engine.state.hmi, engine.state.y)),\n    0x0D: Row("),
+    switch("backspace-moves", "A backspace has no effect.", "table", "    0x0D: Row(", "    0x08: Row(\"CR\", lambda engine, _command: engine.state.move(engine.state.x - engine.state.hmi, engine.state.y)),\n    0x0D: Row("),
+    switch("tabulator-moves", "A horizontal tabulator has no effect.", "table", "    0x0D: Row(", "    0x09: Row(\"CR\", lambda engine, _command: engine.state.move(engine.state.x + 8 * engine.state.hmi, engine.state.y)),\n    0x0D: Row("),
     switch("text-moves", "A printable byte has no effect.", "table", "    if isinstance(command, Uel):\n        return UEL\n",
-           "    if isinstance(command, Uel):\n        return UEL\n    if type(command).__name__ == \"Text\":\n        return Row(\"CR\", \"pages\", lambda engine, _command: engine.state.move(engine.state.x + engine.state.hmi, engine.state.y))\n"),
+           "    if isinstance(command, Uel):\n        return UEL\n    if type(command).__name__ == \"Text\":\n        return Row(\"CR\", lambda engine, _command: engine.state.move(engine.state.x + engine.state.hmi, engine.state.y))\n"),
     # settings
     switch("any-unit", "A unit of measure that there is not has no effect.", "table", "    if number(command) in UNITS_OF_MEASURE:\n", "    if number(command) > 0:\n"),
     switch("line-termination-of-3-is-none", "The line termination is 0 to 3.", "table", "    if number(command) in (0, 1, 2, 3):\n        engine.state.line_termination", "    if number(command) in (0, 1, 2):\n        engine.state.line_termination"),

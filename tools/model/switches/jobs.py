@@ -5,7 +5,7 @@ from . import switch
 KEYS = ["Version", "Type", "JobID", "NPage", "Amount"]
 OPTIONAL = [("RunList", "null"), ("Media", "A4"), ("Sides", "TwoSidedHeadToHead"), ("Collate", "False"), ("Resolution", "600")]
 REQUIRED = 'REQUIRED = ["Version", "Type", "JobID", "NPage", "Amount"]'
-LIST = '{"RunList": "jobs", "Media": "jobs", "Sides": "jobs", "Collate": "jobs", "Resolution": "resolution"}'
+LIST = '["RunList", "Media", "Sides", "Collate", "Resolution"]'
 JUDGED = "        if (key in REQUIRED and key not in value) or (key in value and not ADMITTED[key](value[key])):\n"
 TYPE = "    if value[\"Type\"] != \"DigitalPrinting\":\n        raise Refused(WRONG_PROCESS)\n"
 COUNT = "    if not 1 <= value[\"NPage\"] <= MOST_PAGES:\n        raise Refused(BAD_RANGE)\n"
@@ -30,7 +30,7 @@ def exchanged(first):
 def exchanged_optional(first):
     names = [key for key, _ in OPTIONAL]
     names[first], names[first + 1] = names[first + 1], names[first]
-    return "{%s}" % ", ".join(f'"{key}": "{"resolution" if key == "Resolution" else "jobs"}"' for key in names)
+    return "[%s]" % ", ".join(f'"{key}"' for key in names)
 
 
 SWITCHES = [switch(f"ticket-{KEYS[first].lower()}-behind-{KEYS[first + 1].lower()}", f"{KEYS[first]} is judged before {KEYS[first + 1]}.", "ticket", REQUIRED, exchanged(first)) for first in range(4)]
@@ -38,7 +38,7 @@ SWITCHES += [switch(f"ticket-{OPTIONAL[first][0].lower()}-behind-{OPTIONAL[first
 SWITCHES += [switch(f"ticket-without-{key.lower()}", f"A ticket has {key}.", "ticket", JUDGED, optional(key),
                     "ticket", "    if value[\"Type\"] != \"Dig", "    value = {**dict(Version=\"1.5\", Type=\"DigitalPrinting\", JobID=\"J\", NPage=1, Amount=1), **value}\n    if value[\"Type\"] != \"Dig") for key in KEYS]
 SWITCHES += [
-    switch("ticket-optional-before-required", "What is required is judged before what is optional.", "ticket", "    return REQUIRED + [key for key, group in OPTIONAL.items() if table.includes(upto, group)]\n", "    return [key for key, group in OPTIONAL.items() if table.includes(upto, group)] + REQUIRED\n"),
+    switch("ticket-optional-before-required", "What is required is judged before what is optional.", "ticket", "KEYS = REQUIRED + OPTIONAL", "KEYS = OPTIONAL + REQUIRED"),
     switch("ticket-of-any-version", "The version of a ticket is 1.5.", "ticket", '"Version": lambda value: value == "1.5"', '"Version": json_text.is_text'),
     switch("ticket-version-as-a-number", "The version of a ticket is a text.", "ticket", '"Version": lambda value: value == "1.5"', '"Version": lambda value: value in ("1.5", 1.5)'),
     switch("ticket-of-any-type", "The type of a ticket is DigitalPrinting.", "ticket", TYPE, ""),
@@ -88,7 +88,7 @@ SWITCHES += [
     switch("ticket-resolution-600-is-none", "A resolution may be 600.", "ticket", "RESOLUTIONS = (300, 600)", "RESOLUTIONS = (300,)"),
     switch("ticket-resolution-with-a-point", "A resolution is a whole number.", "ticket", '"Resolution": lambda value: json_text.is_whole(value) and value in RESOLUTIONS', '"Resolution": lambda value: not isinstance(value, (list, dict)) and value in RESOLUTIONS', "ticket", 'value.get("Resolution", FACTORY_RESOLUTION)', 'int(value.get("Resolution", FACTORY_RESOLUTION))'),
     switch("ticket-medium-in-any-case", "The name of a medium is spelled as it is.", "ticket", "json_text.is_text(value) and value in SIZES", "json_text.is_text(value) and value.lower() in [name.lower() for name in SIZES]", "ticket", 'value.get("Media", "Letter")', 'next(name for name in SIZES if name.lower() == value.get("Media", "Letter").lower())'),
-    switch("ticket-null-is-absent", "Null for an optional key is of another kind.", "ticket", "    keys = keys_up_to(upto)\n", "    value = {key: each for key, each in value.items() if each is not None or key in REQUIRED}\n    keys = keys_up_to(upto)\n"),
+    switch("ticket-null-is-absent", "Null for an optional key is of another kind.", "ticket", "    unknown = [", "    value = {key: each for key, each in value.items() if each is not None or key in REQUIRED}\n    unknown = ["),
     switch("ticket-collation-as-a-text", "Collation is a truth value.", "ticket", '"Collate": lambda value: isinstance(value, bool)', '"Collate": lambda value: isinstance(value, bool) or value in (0, 1, "true", "false")'),
     switch("ticket-head-to-foot-is-none", "There is head to foot.", "ticket", '"TwoSidedHeadToHead", "TwoSidedHeadToFoot"]', '"TwoSidedHeadToHead"]'),
     switch("ticket-head-to-head-is-none", "There is head to head.", "ticket", '"TwoSidedHeadToHead", "TwoSidedHeadToFoot"]', '"TwoSidedHeadToFoot"]'),
@@ -96,7 +96,7 @@ SWITCHES += [
     switch("ticket-first-unknown-key", "The least unknown key in the order of bytes is told.", "ticket", "min(unknown, key=str.encode)", "unknown[0]"),
     switch("ticket-unknown-keys-in-any-case", "The least unknown key is told, upper-case letters before lower-case ones.", "ticket", "min(unknown, key=str.encode)", "min(unknown, key=str.lower)"),
     switch("ticket-unknown-keys-behind", "Unknown keys are judged before all others.", "ticket", UNKNOWN, "", "ticket", TYPE, UNKNOWN + TYPE),
-    switch("ticket-keys-in-any-case", "The keys of a ticket are spelled as they are.", "ticket", "    unknown = [key for key in value if key not in keys]\n", "    unknown = [key for key in value if key.lower() not in [each.lower() for each in keys]]\n"),
+    switch("ticket-keys-in-any-case", "The keys of a ticket are spelled as they are.", "ticket", "    unknown = [key for key in value if key not in KEYS]\n", "    unknown = [key for key in value if key.lower() not in [each.lower() for each in KEYS]]\n"),
     switch("ticket-of-a-list", "A ticket is an object.", "ticket", "    if not isinstance(value, dict):\n        raise Refused(NOT_JSON)\n", "    if not isinstance(value, dict):\n        raise Refused(NOT_PROFILE, \"Version\")\n"),
     # what is printed
     switch("ticket-one-sided-pairs-up", "One-sided, each page is a sheet.", "ticket", '        return self.sides != "OneSidedFront"\n', '        return self.sides != "None"\n'),

@@ -16,7 +16,7 @@ PRIORITY = "        if not 0 <= priority <= GREATEST_PRIORITY:\n            rais
 BLOCKED = "        if self.closed and self.held:\n            return \"Blocked\"\n"
 ORDER = "        if self.closed:\n            return \"Closed\"\n        if self.held:\n            return \"Held\"\n"
 IS_FULL = "        if len(self.entries) >= MOST_ENTRIES:\n            return \"Full\"\n"
-JUDGED = "        read = ticket.ticket_of(message[\"Ticket\"], self.upto)\n        ticket.check(read, images)\n        number = self.queue.submit(message.get(\"Priority\", DEFAULT_PRIORITY))\n"
+JUDGED = "        read = ticket.ticket_of(message[\"Ticket\"])\n        ticket.check(read, images)\n        number = self.queue.submit(message.get(\"Priority\", DEFAULT_PRIORITY))\n"
 ID_ABSENT = "    if \"ID\" not in message:\n        raise Answer(MISSING, shown_kind, \"\")\n"
 ID_KIND = "    if not json_text.is_text(message_id):\n        raise Answer(BAD_MESSAGE, shown_kind, \"\")\n"
 TYPE_ABSENT = "    if \"Type\" not in message:\n        raise Answer(MISSING, \"\", message_id)\n"
@@ -188,7 +188,7 @@ SWITCHES += [
     switch("message-type-hides-the-id", "A message with a bad type is answered its ID.", "press", TYPE_KIND, TYPE_KIND.replace("message_id)", '"")')),
     switch("message-type-unknown-is-6", "An unknown type is 5.", "press", "        raise Answer(UNKNOWN_TYPE, kind, message_id)\n", "        raise Answer(BAD_MESSAGE, kind, message_id)\n"),
     switch("message-type-unknown-is-hidden", "An unknown type is answered.", "press", "        raise Answer(UNKNOWN_TYPE, kind, message_id)\n", "        raise Answer(UNKNOWN_TYPE, \"\", message_id)\n"),
-    switch("message-type-in-any-case", "A type is spelled as it is.", "press", "    if kind not in PARAMETERS or", "    kind = next((each for each in PARAMETERS if each.lower() == kind.lower()), kind)\n    if kind not in PARAMETERS or"),
+    switch("message-type-in-any-case", "A type is spelled as it is.", "press", "    if kind not in PARAMETERS:", "    kind = next((each for each in PARAMETERS if each.lower() == kind.lower()), kind)\n    if kind not in PARAMETERS:"),
     switch("message-parameters-in-turn", "Any parameter that is absent comes before any of another kind.", "press", "    if any(name not in message for name in required):\n        raise Answer(MISSING, kind, message_id)\n    for name in names:\n", "    for name in names:\n        if name in required and name not in message:\n            raise Answer(MISSING, kind, message_id)\n"),
     switch("message-parameter-absent-is-6", "A parameter that is absent is 7.", "press", "    if any(name not in message for name in required):\n        raise Answer(MISSING, kind, message_id)\n", "    if any(name not in message for name in required):\n        raise Answer(BAD_MESSAGE, kind, message_id)\n"),
     switch("message-parameter-of-another-kind-is-7", "A parameter of another kind is 6.", "press", "            raise Answer(BAD_MESSAGE, kind, message_id)\n\n\nclass Press", "            raise Answer(MISSING, kind, message_id)\n\n\nclass Press"),
@@ -205,7 +205,7 @@ SWITCHES += [
     switch("message-fault-without-its-number", "A refused ticket is answered with the number of its fault.", "press", "raise Answer(BAD_MESSAGE, kind, message_id, refused.number) from None", "raise Answer(BAD_MESSAGE, kind, message_id) from None"),
     switch("queue-before-the-ticket", "The ticket is judged before the queue is asked.", "press", JUDGED, "        if self.queue.closed:\n            raise Refused(23)\n" + JUDGED),
     switch("priority-before-the-ticket", "The ticket is judged before the priority.", "press", JUDGED, "        if not 0 <= message.get(\"Priority\", 50) <= 100:\n            raise Refused(25)\n" + JUDGED),
-    switch("images-behind-the-queue", "The images are judged before the queue is asked.", "press", JUDGED, "        read = ticket.ticket_of(message[\"Ticket\"], self.upto)\n        if self.queue.closed:\n            raise Refused(23)\n        ticket.check(read, images)\n        number = self.queue.submit(message.get(\"Priority\", DEFAULT_PRIORITY))\n"),
+    switch("images-behind-the-queue", "The images are judged before the queue is asked.", "press", JUDGED, "        read = ticket.ticket_of(message[\"Ticket\"])\n        if self.queue.closed:\n            raise Refused(23)\n        ticket.check(read, images)\n        number = self.queue.submit(message.get(\"Priority\", DEFAULT_PRIORITY))\n"),
     switch("images-are-not-judged", "The images of a submission are judged.", "press", JUDGED, JUDGED.replace("        ticket.check(read, images)\n", "")),
     switch("submission-is-dropped", "A submission that is taken stands in the list.", "press", JUDGED, JUDGED + "        self.queue.entries = [entry for entry in self.queue.entries if entry.number != number]\n"),
 ]

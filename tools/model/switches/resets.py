@@ -151,7 +151,7 @@ SWITCHES += [
            "engine", "        self.state.defining = None\n        self.state.definition = []\n        self.state.hpgl = False\n", "        macros.end(self.state)\n        self.state.hpgl = False\n"),
     switch("reset-deletes-what-is-defined", "The older macro stays where a reset drops the definition of one.",
            "engine", "        self.state.defining = None\n        self.state.definition = []\n        self.state.hpgl = False\n", "        self.state.macros.pop(self.state.defining, None)\n        self.state.defining = None\n        self.state.definition = []\n        self.state.hpgl = False\n"),
-    switch("exit-closes-nothing", "The universal exit resets the engine.", "table", 'UEL = Row("UEL", "boxes", leave)', 'UEL = Row("UEL", "boxes", lambda _engine, _command: None)'),
+    switch("exit-closes-nothing", "The universal exit resets the engine.", "table", 'UEL = Row("UEL", leave)', 'UEL = Row("UEL", lambda _engine, _command: None)'),
     # of calls and overlays
     switch("call-restores-margins-on-another-size", "A call restores margins on the same page size alone.",
            "state", "        if (self.size, self.orientation) == (kept[\"size\"], kept[\"orientation\"]):\n", "        if self.orientation == kept[\"orientation\"]:\n"),
