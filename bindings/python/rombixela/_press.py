@@ -105,7 +105,7 @@ def _written(name: str, room: int, *given: Bytes, before: Sequence[int] = ()) ->
 
 def _memory(size: int) -> mmap.mmap:
     """Room that takes no memory before it is written to, and then in large pieces, where the system has them."""
-    room = mmap.mmap(-1, size)
+    room = mmap.mmap(-1, size, mmap.MAP_PRIVATE | mmap.MAP_ANONYMOUS)
     if size > SMALL:
         with contextlib.suppress(AttributeError, OSError):
             room.madvise(mmap.MADV_HUGEPAGE, SMALL)

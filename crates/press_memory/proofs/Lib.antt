@@ -1,4 +1,4 @@
 -- The lemmas of calls over bytes in memory.
 mod JobLemmas
-mod SidesLemmas
+mod RoomLemmas
 mod WrittenLemmas

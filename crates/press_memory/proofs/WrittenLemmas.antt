@@ -1,5 +1,5 @@
 -- What is written of bytes in memory, whatever names the reader and the writer have for them.
-use Rattle.std.proofs.Common.{◌≡◌, ℕ, Bool, true, List, [], Option, Some, None, ◌++◌, ◌⊎◌, refl, ap, subst, inl, inr}
+use Rattle.std.proofs.Common.{◌≡◌, ℕ, Bool, true, List, [], Option, Some, None, ◌++◌, ◌⊎◌, ap, subst, inl, inr}
 use Rattle.press_devices.specs.Reading.{ReadFails}
 use Rattle.press_sink.specs.Outputs.{MadeOutput}
 use Rattle.press_telling.specs.Telling.{Ended}

@@ -1,5 +1,5 @@
 -- What the program writes in a session, over lines in memory, as the clause of `press_lines` says it.
-use Rattle.std.specs.Prelude.{◌≡◌, ◌⊎◌, ℕ, false, true, List, [], Option, Some, None, ⊤}
+use Rattle.std.specs.Prelude.{◌≡◌, ◌⊎◌, ℕ, false, true, List, [], Some, None, ⊤}
 use Rattle.press_devices.specs.Reading.{SomeFails}
 use Rattle.press_devices.specs.Watching.{has_failed, reads_of}
 use Rattle.press_devices.specs.declared.watched.Watched.{Watched}

@@ -1,5 +1,5 @@
 //! What a call answers to its caller in C, and what it puts into the caller's room (this profile).
-ghost use Rattle.std.specs.Prelude.{◌≡◌};
+ghost use Rattle.std.specs.Prelude.{◌≡◌, ◌<◌, ◌≤◌, ◌+◌, ◌++◌, ◌^◌, List, ℕ, length};
 ghost use Rattle.press_memory.specs.Answers.{HandedTo};
 
 use std::alloc::Global;
@@ -18,6 +18,36 @@ pub struct RombixelaAnswer {
     pub fault: u32,
     pub bytes: u64,
     pub put: u64,
+}
+
+impl RombixelaAnswer {
+    /// Nothing was handed to the room.
+    pub(crate) fn nothing(fault: u32) -> Self
+        ensures { result ≡ record { fault = fault; bytes = 0; put = 0 } }
+    {
+        RombixelaAnswer {
+            fault,
+            bytes: 0,
+            put: 0,
+        }
+    }
+
+    /// Puts the front of more bytes into the caller's room, as many as fit behind those that stand there, and counts all of them. The rest of the
+    /// room stays as it is.
+    pub(crate) fn hand_more(&mut self, bytes: &[u8], room: &mut [u8])
+        requires fits { self.old.bytes + length bytes.now < 2 ^ 64 }
+        requires inside { self.old.put ≤ length room.old }
+        ensures fault { self.new.fault ≡ self.old.fault }
+        ensures bytes { self.new.bytes ≡ self.old.bytes + length bytes.now }
+        ensures handed { (written before : List ℕ) → HandedTo written before room.old self.old
+            → HandedTo (written ++ bytes.now) before room.new self.new }
+    {
+        let begin = self.put as usize;
+        let put = bytes.len().min(room.len() - begin);
+        room[begin..begin + put].copy_from_slice(&bytes[..put]);
+        self.put += put as u64;
+        self.bytes += bytes.len() as u64;
+    }
 }
 
 /// What the program writes, and its fault.
@@ -47,11 +77,7 @@ pub(crate) fn hand_over(fault: u32, bytes: &[u8], room: &mut [u8]) -> RombixelaA
     ensures fault { result.fault ≡ fault }
     ensures handed { HandedTo bytes.now room.old room.new result }
 {
-    let put = bytes.len().min(room.len());
-    room[..put].copy_from_slice(&bytes[..put]);
-    RombixelaAnswer {
-        fault,
-        bytes: bytes.len() as u64,
-        put: put as u64,
-    }
+    let mut answer = RombixelaAnswer::nothing(fault);
+    answer.hand_more(bytes, room);
+    answer
 }

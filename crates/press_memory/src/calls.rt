@@ -16,8 +16,7 @@ pub fn print(alloc: Global, settings: &[u8], stream: &[u8], room: &mut [u8]) -> 
     ensures { Answers (BySettings settings.now (λ prefix. SidesOf prefix stream.now))
         result room.old room.new }
 {
-    let written = sides::sides(alloc, settings, stream);
-    hand_over(written.fault, &written.bytes, room)
+    sides::sides(alloc, settings, stream, room)
 }
 
 /// The listing of a stream, as `print --list` writes it, with the printer's own settings.

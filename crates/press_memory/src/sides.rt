@@ -1,43 +1,54 @@
-//! The P4 files of the sides of a stream in memory (Netpbm, the raw form of the PBM format).
-ghost use Rattle.std.specs.Prelude.{◌≡◌, ◌++◌, IfOk, OnOk};
-ghost use Rattle.press_sink.specs.Kept.{output_of, outputs_in};
+//! The P4 files of the sides of a stream, into the caller's room (Netpbm, the raw form of the PBM format).
+ghost use Rattle.std.specs.Prelude.{◌≡◌};
+ghost use Rattle.press_memory.specs.Answers.{Answers};
 ghost use Rattle.press_memory.specs.Settings.{BySettings};
-ghost use Rattle.press_memory.specs.Written.{SidesOf, held_by_all, held_bytes};
+ghost use Rattle.press_memory.specs.Written.{SidesOf};
 
-use crate::answer::{NO_MEMORY, Written};
+use crate::answer::{RombixelaAnswer, hand_over};
 use crate::ending::fault_after;
+use crate::room_outputs::{Lent, RoomOutputs};
 use crate::settings::prefix_in;
 use press_devices::Watched;
 use press_files::print_files;
-use press_sink::{ListOutputs, ListedOutput};
-use std::alloc::{AllocError, Global};
+use std::alloc::Global;
 use std::io;
+use std::marker::Brand;
 
 /// The names of the outputs, which nobody sees: their numbers.
 const NAMES: &str = "%d";
 
-/// The P4 files of all sides of a stream, one behind the other, by settings.
-pub(crate) fn sides(alloc: Global, settings: &[u8], stream: &[u8]) -> Written
-    ensures { BySettings settings.now (λ prefix. SidesOf prefix stream.now)
-        result.fault result.bytes.items }
+/// Puts the P4 files of all sides of a stream into the room, one behind the other, by settings.
+pub(crate) fn sides(
+    alloc: Global,
+    settings: &[u8],
+    stream: &[u8],
+    room: &mut [u8],
+) -> RombixelaAnswer
+    ensures { Answers (BySettings settings.now (λ prefix. SidesOf prefix stream.now))
+        result room.old room.new }
 {
     let prefix = match prefix_in(alloc, settings) {
         Ok(prefix) => prefix,
-        Err(error) => return Written::nothing(alloc, error.number()),
+        Err(error) => return hand_over(error.number(), &[], room),
     };
-    match sides_behind(alloc, &prefix, stream) {
-        Ok(written) => written,
-        Err(_) => Written::nothing(alloc, NO_MEMORY),
-    }
+    let (_, answer) = sides_behind::<Brand>(alloc, &prefix, stream, room);
+    answer
 }
 
-/// The P4 files of all sides of a stream behind these bytes.
-fn sides_behind(alloc: Global, prefix: &[u8], stream: &[u8]) -> Result<Written, AllocError>
-    ensures { IfOk result (λ written.
-        SidesOf prefix.now stream.now written.fault written.bytes.items) }
+/// Puts the P4 files of all sides of a stream behind these bytes into the room, which is handed back. The call's proof says which room it is.
+fn sides_behind<'r, D: Lent>(
+    alloc: Global,
+    prefix: &[u8],
+    stream: &[u8],
+    room: &'r mut [u8],
+) -> (&'r mut [u8], RombixelaAnswer)
+    requires name { room.ghost_name ≡ D.name }
+    requires before { room.old ≡ D.before }
+    ensures room { result.0.ghost_name ≡ room.entry.ghost_name }
+    ensures sides { Answers (SidesOf prefix.now stream.now) result.1 room.old result.0.now }
 {
     let mut reader = Watched::new(stream);
-    let outputs = ListOutputs::new(alloc);
+    let outputs: RoomOutputs<'r, D> = RoomOutputs::new(alloc, room);
     let printed = print_files(
         alloc,
         outputs,
@@ -48,28 +59,7 @@ fn sides_behind(alloc: Global, prefix: &[u8], stream: &[u8]) -> Result<Written, 
         &mut io::sink(),
     );
     let fault = fault_after(printed.status, &reader);
-    let bytes = joined(alloc, printed.outputs.outputs())?;
-    Ok(Written { fault, bytes })
-}
-
-/// What outputs hold, one behind the other.
-fn joined(alloc: Global, outputs: &[ListedOutput]) -> Result<Vec<u8>, AllocError>
-    ensures { IfOk result (λ bytes. bytes.items ≡ held_by_all (outputs_in outputs.now)) }
-{
-    let mut bytes = Vec::new(alloc);
-    for output in outputs {
-        append_held(&mut bytes, output)?;
-    }
-    Ok(bytes)
-}
-
-/// Appends what an output holds.
-fn append_held(bytes: &mut Vec<u8>, output: &ListedOutput) -> Result<(), AllocError>
-    ensures { OnOk result (bytes.new.items
-        ≡ bytes.old.items ++ held_bytes (output_of output.now).holds) }
-{
-    match &output.holds {
-        Some(held) => bytes.extend_from_slice(held),
-        None => Ok(()),
-    }
+    let (room, mut answer) = printed.outputs.into_parts();
+    answer.fault = fault;
+    (room, answer)
 }
