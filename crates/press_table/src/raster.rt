@@ -158,7 +158,6 @@ impl State {
     }
 
     /// `*b#W`: transfers rows; where raster graphics is off, it starts at the left edge.
-    #[inline(always)]
     pub(crate) fn transfer(&mut self, alloc: Global, bytes: &[u8]) -> Result<Effect, AllocError>
         ensures effect { IfOk result (λ effect.
             effect_of self.new effect ≡ transfer bytes.now self.old) }
