@@ -15,7 +15,7 @@ use Rattle.press_core.specs.World.{World}
 use Rattle.press_files.specs.EntryPages.{page_lines}
 use Rattle.press_files.specs.EntryTemplate.{EntryParts}
 use Rattle.press_history.specs.Runs.{Transition, IsAnswered, IsExecution}
-use Rattle.press_theorem.specs.Events.{EventOutputs, FaultLeaves, HappenAll, HappenSome, UpTo, BeforeTurn, handing, line_of, turns_of}
+use Rattle.press_theorem.specs.Events.{FaultLeaves, HappenAll, HappenSome, UpTo, BeforeTurn, handing, line_of, turns_of}
 use Rattle.press_sessions.specs.declared.session_error.SessionError.TheVariants as whys
 use Rattle.press_sessions.specs.Sessions.{EventFails, KeepsDelivered, Standing, TakesEvent, answer_text, handed_back, stopped_by}
 

@@ -35,7 +35,7 @@ use Rattle.press_files.specs.EntryListing.{entry_listing}
 use Rattle.press_sessions.specs.EventLines.{EventLine, MessageLine, TurnLine, OperatorLine, event_of_line}
 use Rattle.press_sessions.specs.Faults.{told_of_session}
 use Rattle.press_sessions.specs.Sessions.{Inputs, LineDone, NoEvent, Wrong, Happened, answer_to, answers_to, happenings_in, handed_by, handed_in}
-use Rattle.press_sessions.specs.Sessions.{AreLinesOf, HasFault, TakesAsked, TakesLines, IsUnanswered, IsUnread, KeepsDelivered, Rules, is_of_line}
+use Rattle.press_sessions.specs.Sessions.{AreLinesOf, HasFault, LineEnds, TakesAsked, TakesLines, IsUnanswered, IsUnread, KeepsDelivered, Rules, is_of_line}
 use Rattle.press_sessions.specs.Sessions.{PlaysToItsEnd, StopsListing, StopsPlaying, Standing, playing}
 use Rattle.press_sessions.specs.Sessions.{AreParts, HasNoPress, HasNoTemplate, NothingBegan, Plays, PlaysBy, Stops, StopsBy, StopsWithin, beginning, by_rules}
 use Rattle.press_sessions.specs.Talking.{Talking, AnswersLines, AnswersAll, AnswersSome, caused, line_by_line}
@@ -267,7 +267,7 @@ module _ {S R : Type 0} (rules_by : R → Rules) (rules : S → R) (stands : S �
 
   abbrev pub plays : Talking S SessionError
   plays =
-      line_by_line takes_line (λ at line why ended. IsUnanswered (rules_by (rules at)).inputs line (stands at) why (stands ended))
+      line_by_line takes_line (λ at line why ended. LineEnds (rules_by (rules at)) line (stands at) why (stands ended))
       (λ error why. why ≡ File (fault.Input error)) (λ error why. why ≡ Output error)
 
   TakesLines-all : (lines : List (List ℕ)) (old : S) (answers : List ℕ) (new : S) → AnswersLines takes_line lines old answers new
@@ -287,7 +287,7 @@ module _ {S R : Type 0} (rules_by : R → Rules) (rules : S → R) (stands : S �
         subst (λ (some : R). TakesLines (rules_by some) (line ∷ []) (stands last) (stands next) answer)
         (TakesLines-all lines first answers last takes).1 (TakesLines-all (line ∷ []) last answer next more).0;
     refuses = λ lines answers last takes line why ended refuses.
-        subst (λ (some : R). IsUnanswered (rules_by some).inputs line (stands last) why (stands ended)) (TakesLines-all lines first answers last takes).1 refuses;
+        subst (λ (some : R). LineEnds (rules_by some) line (stands last) why (stands ended)) (TakesLines-all lines first answers last takes).1 refuses;
     unread = λ error why is. is;
     unwritten = λ error why is. is;
   }

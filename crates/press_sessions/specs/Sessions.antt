@@ -1,5 +1,5 @@
 -- Sessions with a press: what its lines ask, what comes of them, and what is written and made.
-use Rattle.std.specs.Prelude.{◌≡◌, ◌≢◌, ◌⊎◌, ◌+◌, ℕ, Bool, true, false, List, [], ◌∷◌, ◌++◌, map, IsTrue, MatchBool, Option, Some, None, Ok, Err, codes, ⊤}
+use Rattle.std.specs.Prelude.{◌≡◌, ◌≢◌, ◌⊎◌, ℕ, Bool, true, false, List, [], ◌∷◌, ◌++◌, map, IsTrue, MatchBool, Option, Some, None, Ok, Err, codes, ⊤}
 use Rattle.std.specs.Fmt.{decimal}
 use Rattle.std.specs.List.{All}
 use Rattle.std.specs.Io.KnownBytes.{Appends}
@@ -143,7 +143,7 @@ IsUnread input (fault.Input input_fault.ReadFault) = Unreadable input
 IsUnread input (fault.Input input_fault.NoMemory) = ⊤
 IsUnread input why = ⊥
 
--- Nothing more was delivered, but what a sink took before its fault, or before memory ran out.
+-- What was delivered stays, and stands in front of what came.
 abbrev pub KeepsDelivered : (old new : Standing) → Type 0
 KeepsDelivered old new = (handed : List Delivery) × (new.delivered ≡ old.delivered ++ handed)
 
@@ -183,7 +183,7 @@ abbrev pub IsUnanswered : Inputs → (line : List ℕ) → (old : Standing) → 
 IsUnanswered inputs line old why new =
     ((asked : EventLine) × (event_of_line line ≡ Some asked) × HasFault inputs asked old why new) ⊎ ((why ≡ NoMemory) × KeepsDelivered old new)
 
--- whether a fault is one of the line: its file, an image, or an engine that there is not; no device failed, and memory was there
+-- whether a fault is one of the line: its file, an image, or an engine that there is not; no device failed but an input of the line, and memory was there
 abbrev pub is_of_line : SessionError → Bool
 is_of_line (File (fault.Input input_fault.ReadFault)) = true
 is_of_line (File (fault.Image image_fault.NoMemory)) = false
@@ -221,11 +221,15 @@ pub record TakesLines (rules : Rules) (lines : List (List ℕ)) (old new : Stand
   pub happened : All (λ happening. IsAnswered happening.answer) (happenings_in happenings)
   pub answered : answers ≡ answers_to rules.parts old.delivered happenings
 
+-- Why a line ends a session: it has no answer. Where the session goes on behind a line that is wrong, that is not why.
+abbrev pub LineEnds : Rules → (line : List ℕ) → (old : Standing) → SessionError → (new : Standing) → Type 0
+LineEnds rules line old why new = IsUnanswered rules.inputs line old why new × (rules.goes_on ≡ true → is_of_line why ≡ false)
+
 -- The talk of a session, by these rules.
 abbrev pub playing : Rules → Talking Standing SessionError
 playing rules = record {
   Takes = λ lines old answers new. TakesLines rules lines old new answers;
-  Refuses = λ at line why ended. IsUnanswered rules.inputs line at why ended;
+  Refuses = λ at line why ended. LineEnds rules line at why ended;
   Unread = λ error why. why ≡ File (fault.Input error);
   Unwritten = λ error why. why ≡ Output error;
 }
@@ -288,7 +292,7 @@ pub record PlaysBy (rules : Rules) (sums : Bool) (first : Standing) (bytes left 
   pub files : makes ≡ with_outputs (pages_behind rules.parts [] played.answered.last.delivered) made
 
 -- It stopped early in another state, and this is why. The files of the sheets that were delivered were made, and nothing else, but for a prefix
--- of those of the sheet at which an output failed.
+-- of those of one sheet more, where an output failed.
 pub record StopsBy (rules : Rules) (sums : Bool) (fails : Failures) (first : Standing) (read output : Change (Option (List ℕ))) (made : Change (Option (List MadeOutput))) (why : SessionError) : Type 0 where
   pub ended : Standing
   pub stops : StopsPlaying rules sums fails first ended read output why

@@ -302,7 +302,7 @@ struct SessionTalk<'a, I, O: NamedOutputs, D: EntryFolder> {
 }
 
 impl<I: NamedInputs, O: NamedOutputs + Drop, D: EntryFolder> Talk for SessionTalk<'_, I, O, D> {
-    ghost use Rattle.press_sessions.specs.Sessions.{TakesLines, IsUnanswered};
+    ghost use Rattle.press_sessions.specs.Sessions.{LineEnds, TakesLines};
 
     type Error = SessionError;
 
@@ -316,9 +316,10 @@ impl<I: NamedInputs, O: NamedOutputs + Drop, D: EntryFolder> Talk for SessionTal
         (line ∷ []) (standing old.session) (standing new.session) answer
         × (new.rules ≡ old.rules) };
 
-    ghost refuses = { λ at line why ended. IsUnanswered
+    ghost refuses = { λ at line why ended. LineEnds (by_rules
         (named (SomeFails I.Input.failed I.Input.reads)
         (I.bytes at.rules.inputs.now) (I.missing at.rules.inputs.now))
+        at.rules.goes_on D.parts)
         line (standing at.session) why (standing ended.session) };
 
     fn answer(&mut self, line: &[u8]) -> Result<Vec<u8>, SessionError> {
@@ -335,7 +336,8 @@ fn answer_wrong(alloc: Global, goes_on: bool, error: SessionError) -> Result<Vec
     ensures of_line { OnOk result (is_of_line error ≡ true) }
     ensures told { IfOk result (λ answer. (told : List ℕ)
         × (told_of_session error ≡ Some told) × (answer.items ≡ told ++ 10 ∷ [])) }
-    ensures err { IfErr result (λ why. (why ≡ error) ⊎ (why ≡ NoMemory)) }
+    ensures err { IfErr result (λ why. ((why ≡ error) ⊎ (why ≡ NoMemory))
+        × (goes_on ≡ true → is_of_line why ≡ false)) }
 {
     if !goes_on || !error.is_of_line() {
         return Err(error);

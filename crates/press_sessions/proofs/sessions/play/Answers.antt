@@ -1,5 +1,5 @@
 -- The lines are answered by rules that stay, and then the listing is written.
-use Rattle.std.proofs.Common.{◌≡◌, List, ℕ, true}
+use Rattle.std.proofs.Common.{◌≡◌, true}
 use Rattle.std.proofs.lemmas.Result.{on_ok_weaker, IfErr-weaker}
 use Rattle.press_units.proofs.ExitLemmas.{exit-is}
 use Rattle.press_devices.specs.Reading.{ReadFails, SomeFails}

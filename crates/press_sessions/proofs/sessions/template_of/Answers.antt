@@ -1,4 +1,3 @@
-use Rattle.std.proofs.Common.{refl}
 use Rattle.press_units.proofs.ExitLemmas.{exit-is}
 use Rattle.press_sessions.proofs.SessionLemmas.{HasNoTemplate-of}
 use Rattle.press_sessions.proofs.sessions.template_of.Goals as goal

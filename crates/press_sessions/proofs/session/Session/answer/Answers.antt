@@ -1,7 +1,5 @@
-use Rattle.std.proofs.Common.{◌≡◌, ◌∙◌, ℕ, Bool, List, [], Bor, map, Some, None, option_map, refl, sym, ap, inl, inr}
+use Rattle.std.proofs.Common.{◌≡◌, ◌∙◌, ℕ, List, Bor, map, Some, None, option_map, sym, ap, inl}
 use Rattle.std.proofs.lemmas.Result.{IfOk-weaker, IfErr-weaker}
-use Rattle.std.proofs.lemmas.List.{append-nil}
-use Rattle.press_units.proofs.ExitLemmas.{exit-is}
 use Rattle.press_devices.specs.Reading.{SomeFails}
 use Rattle.press_sessions.specs.EventLines.{event_in, event_of_line, line_seen}
 use Rattle.press_sessions.specs.Sessions.{by_rules, standing}

@@ -1,4 +1,4 @@
-use Rattle.std.proofs.Common.{◌≡◌, ◌∙◌, ℕ, List, Bor, map, sym, ap, subst, inl, inr}
+use Rattle.std.proofs.Common.{◌∙◌, ℕ, List, Bor, map, sym, subst, inl, inr}
 use Rattle.std.proofs.lemmas.Result.{IfOk-weaker, IfErr-weaker}
 use Rattle.press_units.proofs.ExitLemmas.{exit-is}
 use Rattle.press_devices.specs.Reading.{SomeFails}

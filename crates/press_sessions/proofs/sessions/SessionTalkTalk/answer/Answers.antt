@@ -33,5 +33,5 @@ pub returns-in-Err-clause-err : goal.returns-in-Err-clause-err
 returns-in-Err-clause-err g c =
     let input = named (SomeFails g.I.Input.ReadDevice.failed g.I.Input.ReadDevice.reads) (g.I.NamedInputs.bytes c.args.self.now.rules.inputs.now) (g.I.NamedInputs.missing c.args.self.now.rules.inputs.now) in
     IfErr-weaker c.answer_wrong.result _ _
-    (λ why. IsUnanswered-untold input c.args.line.now (standing c.args.self.now.session) (standing c.answer.new.self) c.in-Err.error why c.in-Err.ensures.err)
+    (λ why ends. (IsUnanswered-untold input c.args.line.now (standing c.args.self.now.session) (standing c.answer.new.self) c.in-Err.error why c.in-Err.ensures.err ends.0, ends.1))
     c.answer_wrong.ensures.err
