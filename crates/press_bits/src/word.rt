@@ -77,7 +77,7 @@ pub(crate) fn whole_word_from(bits: &[u8], index: usize, shift: usize) -> u64
     (left << shift) | (right >> (8 - shift))
 }
 
-/// Puts sixty-four dots into the eight bytes from one on.
+/// Puts sixty-four dots into the eight bytes from one on. Swapped as a number, they are one store.
 #[inline(always)]
 pub fn put_word(rows: &mut [u8], index: usize, word: u64)
     requires { index + 8 ≤ length rows.old }

@@ -88,7 +88,8 @@ pub(crate) fn on_page(orientation: Orientation, page: Extent, dots: Rectangle) -
     requires { AreOn (turned orientation page) dots }
     ensures on { AreOn page result }
     ensures beside { (x y : ℕ) → x < page.width → y < page.height → IsBeside result x y
-        → (let dot = placed_dot orientation page.width page.height x y in IsBeside dots dot.0 dot.1) }
+        → (let dot = placed_dot orientation page.width page.height x y in
+        IsBeside dots dot.0 dot.1) }
 {
     let Extent { width, height } = page;
     let Rectangle {

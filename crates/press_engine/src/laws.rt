@@ -43,7 +43,7 @@ pub fn others_keep_the_page()
 {}
 
 /// A command of the stream that transfers rows has one item. Where the page stands upright, it leaves the lines above the cursor before it
-/// as they are, and those below the dots of a row at the cursor behind it.
+/// as they are, and those from eight lines below that of the cursor behind it on, while neither is below the logical page.
 pub fn rows_keep_other_lines()
     ensures { RowsKeepOtherLines }
 {}

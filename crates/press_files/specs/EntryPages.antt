@@ -35,7 +35,7 @@ abbrev pub StandsBehindPages : (faults : ℕ) → List MadeOutput → Option Ent
 StandsBehindPages zero behind parts deliveries = behind ≡ []
 StandsBehindPages (suc faults) behind parts deliveries = (one : Delivery) × IsPrefix behind (outputs_behind parts deliveries one)
 
--- What was made of the sheets that a sink took: the outputs of all of them, and nothing else, but for a prefix of those of the sheet at which
+-- What was made of the sheets that a sink took: the outputs of all of them, and nothing else, but for a prefix of those of one sheet more where
 -- it had a fault.
 pub record MakesPages (parts : Option EntryParts) (deliveries : List Delivery) (faults : ℕ) (before after : Option (List MadeOutput)) : Type 0 where
   pub behind : List MadeOutput

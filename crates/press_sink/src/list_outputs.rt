@@ -14,7 +14,7 @@ pub struct ListedOutput {
     pub holds: Option<Vec<u8>>,
 }
 
-/// Named outputs that are kept, in the order in which they were made. It is for tests.
+/// Named outputs that are kept, in the order in which they were made: for bytes in memory, and for tests.
 #[derive(Drop)]
 pub struct ListOutputs {
     alloc: Global,

@@ -72,7 +72,8 @@ row_line environment y =
     then Some (lines_below (cursor_dot setup top (record { x = 0; y = y })).y 0).first
     else None
 
--- An upright page agrees above the line of the cursor before, and below the dots of a row that begins on the line of the cursor behind.
+-- An upright page agrees above the line of the cursor before, and from as many lines below that of the cursor behind on as a dot of a row is high at
+-- most, where neither stands below the logical page.
 abbrev pub KeepsOtherLines : State → State → Type 0
 KeepsOtherLines before after = (first last : ℕ) → (page next : Page)
     → row_line before.environment before.cursor.y ≡ Some first → row_line after.environment after.cursor.y ≡ Some last

@@ -118,6 +118,7 @@ impl State {
             Operation::SourceWidth => self.set_source_width(value),
             Operation::SourceHeight => self.set_source_height(value),
             Operation::SetMethod => self.drawing.raster.set_method(value),
+            // taken before this match by `row`
             Operation::TransferRow => return self.transfer(alloc, command.data()),
             Operation::OffsetRaster => self.offset_raster(value),
             Operation::MoveX => self.move_along(self.pcl_unit(), value),
