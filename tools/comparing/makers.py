@@ -104,7 +104,7 @@ class Makers:
     def note_dots(self, patch, page, make):
         """Notes those of the dots that a patch turns, and by which command."""
         first = bisect.bisect_left(self.wanted, (patch.top, 8 * patch.left))
-        last = bisect.bisect_left(self.wanted, (patch.top + len(patch.spelled), 0))
+        last = bisect.bisect_left(self.wanted, (patch.top + patch.count(), 0))
         if first == last:
             return
         left, top, rows, old = patch.whole()

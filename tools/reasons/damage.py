@@ -11,7 +11,7 @@ from typing import NamedTuple
 from .finding import Finding, counted
 
 TRANSFER = re.compile(rb"\x1b\*b(?:[0-9]+[a-z])*([0-9]{1,5})W")
-BEHIND_A_ROW = (b"\x1b", b"\x0c", b"\r", b"\n", b"")   # what a driver puts behind a row, and the end
+BEHIND_A_ROW = {b"\x1b", b"\x0c", b"\r", b"\n", b""}   # what a driver puts behind a row, and the end
 NEXT = b"\x1b*b"
 LEAST_WRONG = 2                         # rows
 MENDS = 10                              # what is tried leaves at most one wrong row for so many
@@ -35,18 +35,19 @@ class Rows(NamedTuple):
     @classmethod
     def of(cls, stream):
         count = wrong = early = place = size = 0
-        kinds = set()
+        kinds, long, enough = set(), len(stream), False
         while found := TRANSFER.search(stream, place):
-            end = found.end() + int(found[1])
-            row = stream[found.end():end]
-            count, place = count + 1, found.end()
-            if end > len(stream) or stream[end:end + 1] not in BEHIND_A_ROW:
-                wrong, early = wrong + 1, early + (0 <= stream.find(NEXT, found.end(), end + len(NEXT)) < end)
+            begins = place = found.end()
+            end, count = begins + int(found[1]), count + 1
+            if end > long or stream[end:end + 1] not in BEHIND_A_ROW:
+                wrong, early = wrong + 1, early + (0 <= stream.find(NEXT, begins, end + len(NEXT)) < end)
             else:
                 place = end
-            size += len(row)
-            if not ENOUGH <= kinds:
+            size += min(end, long) - begins
+            if not enough:
+                row = stream[begins:end]
                 kinds.update(HIGHEST if HIGH.search(row) else (), row)
+                enough = ENOUGH <= kinds
         return cls(count, wrong, early, size, kinds)
 
 

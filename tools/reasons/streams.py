@@ -34,7 +34,8 @@ def looked_at(shown, stream, front=b"", chosen=program.PROGRAM):
     """The findings on a stream that is read to its end, the weightiest first; and its sides."""
     if (other := of_kind(shown, stream)) is not None:
         return [other], []
-    seen = Seen(happenings.Run(stream, front=front, chosen=chosen))
+    run = happenings.Run(stream, front=front, chosen=chosen)
+    seen = Seen(run, happenings.together(run))
     for happening, met in seen.judge.judged():
         seen.add(happening, met)
     return seen.findings(shown), seen.sides.found
@@ -53,11 +54,12 @@ class Seen:
     """What is seen of a run: the reasons that it met, its sides, and of each page that came out blank what was sent to it. Of the others nothing is
     held."""
 
-    def __init__(self, run):
-        self.run, self.judge, self.sides = run, Judge(run), listing.Sides(run)
+    def __init__(self, run, some=None):
+        self.run, self.judge, self.sides = run, Judge(run, some), listing.Sides(run)
         self.groups, self.pages = {}, {}
         self.count = self.recorded = 0
         self.told = 0          # sides of which it is known whether they are blank
+
     def add(self, happening, met):
         self.count += 1
         self.recorded += happening.how == "recorded"

@@ -14,6 +14,7 @@ from model.commands import Broken, Control, Foreign, Param, PjlLine, Text, Uel
 from model.engine import is_reset
 from model.values import POSITIONS_PER_INCH
 from seen import names, remarks
+from seen.happenings import Row
 from seen.placing import row_of
 from seen.sent import NOTHING, WHOLE_ROW, letters
 
@@ -38,6 +39,7 @@ class Reason(NamedTuple):
     loses: bool = False              # whether what was to be marked is not, or not all of it; of others a page is changed
     dots: Callable = lambda happening: happening.sent.lost()
     name_of: Callable = None         # what the happenings of a group are told apart by
+    how: str = "no row"              # which happenings may meet it: "row", "no row", "HP-GL/2", or "any"
 
     def advised(self, judge, happening):
         return self.advice if isinstance(self.advice, str) else self.advice(judge, happening)
@@ -433,46 +435,46 @@ def unknown(_, happening):
 REASONS = [
     Reason("another language", lambda judge, each: judge.language if has_no_row(each, Foreign) else None,
            lambda *_: "skipped, up to the next universal exit", AS_PCL, groups.language, True, loses=True),
-    Reason("resolution", other_resolution, because_of_resolution, resolution_advice, blanks=True),
+    Reason("resolution", other_resolution, because_of_resolution, resolution_advice, blanks=True, how="row"),
     Reason("planes", colour, because_of_colour, BLACK, groups.first_of_many, True, loses=True, name_of=groups.of_a_kind),
-    Reason("method", other_method, because_of_method, "Have the driver compress by one of these: " + LASER, blanks=True),
-    Reason("dots beside the page", loses, because_of_loss, loss_advice, groups.lost, True, loses=True),
+    Reason("method", other_method, because_of_method, "Have the driver compress by one of these: " + LASER, blanks=True, how="row"),
+    Reason("dots beside the page", loses, because_of_loss, loss_advice, groups.lost, True, loses=True, how="row"),
     Reason("data that is taken", takes_data, because_of_data, "Leave it out: " + LASER, blanks=True),
     Reason("what is left of a command", remains, lambda *_: "it is left of a command whose first bytes were taken as data",
            "", groups.silent),
     Reason("HP-GL/2", lambda _, each: "plot" if each.how == "HP-GL/2" else None, lambda *_: "HP-GL/2 is on",
-           "Send it as raster graphics; ESC%0A leaves HP-GL/2", groups.plot, True, loses=True),
+           "Send it as raster graphics; ESC%0A leaves HP-GL/2", groups.plot, True, loses=True, how="HP-GL/2"),
     Reason("transparent data", of_letters({"&pX"}, lambda each: bool(each.placed.command.data)), lambda *_: "text leaves no marks",
            "Send it as raster graphics; the shapes of a printer's fonts are its maker's", following.transparent, True, loses=True, name_of=data_size),
     Reason("a macro that is not ended", lambda judge, each: place_of(each) if place_of(each) in judge.following.unended else None,
-           following.because_unended, "End it by ESC&f1X, and run it", blanks=True, loses=True),
+           following.because_unended, "End it by ESC&f1X, and run it", blanks=True, loses=True, how="row"),
     Reason("an overlay of nothing", lambda judge, each: each.before["macro_id"] if place_of(each) in judge.following.idle_overlays else None,
            lambda _, each: f"there is no macro {each.before['macro_id']} where the page closes, or it is empty, so nothing is laid over it",
-           "Record the macro by ESC&f0X and ESC&f1X before, in the same job", blanks=True, loses=True),
+           "Record the macro by ESC&f0X and ESC&f1X before, in the same job", blanks=True, loses=True, how="row"),
     Reason("a row that repeats", lambda judge, each: "rows" if place_of(each) in judge.following.repeated else None,
            lambda *_: "a row of no bytes by method 3 repeats the row above it",
            "Where white rows are meant, have the driver send ESC*b#Y, or another method (Netpbm: pbmtolj without -delta)", following.repeats,
-           dots=lambda each: each.sent.again),
+           dots=lambda each: each.sent.again, how="row"),
     Reason("text", lambda _, each: "text" if has_no_row(each, Text) else None, lambda *_: "text leaves no marks",
            "Send it as raster graphics; the shapes of a printer's fonts are its maker's", groups.text, True, loses=True),
     Reason("a fill of nothing", fills_nothing, lambda *_: "it marks nothing",
-           "Its rectangle has no size, lies outside the page, or its pattern does not exist", groups.fills, True),
-    Reason("pattern", refuses_pattern, because_of_pattern, "It is 00 00 01 00, height and width of 16 bits each, and the rows", blanks=True),
+           "Its rectangle has no size, lies outside the page, or its pattern does not exist", groups.fills, True, how="row"),
+    Reason("pattern", refuses_pattern, because_of_pattern, "It is 00 00 01 00, height and width of 16 bits each, and the rows", blanks=True, how="row"),
     Reason("a white fill", following.erases, lambda _, each: f"a fill with white erases {counted(following.erased_dots(each), 'black dot')}",
-           "Nothing is to be done where white is meant; else send it before what it shall not erase", following.erased, dots=following.erased_dots),
+           "Nothing is to be done where white is meant; else send it before what it shall not erase", following.erased, dots=following.erased_dots, how="row"),
     Reason("rows past the raster height", comes_late, because_of_late,
-           "Have the driver send ESC*r#T with the rows that the picture has, or leave it out", groups.late, True, loses=True),
+           "Have the driver send ESC*r#T with the rows that the picture has, or leave it out", groups.late, True, loses=True, how="row"),
     Reason("a row that is cut", is_cut, because_of_cut, "It was cut: copy or make it again", groups.plain, True, loses=True),
     Reason("broken", lambda _, each: "broken" if has_no_row(each, Broken) else None, lambda *_: "ignored",
            "A PJL line ends with a line feed and has at most 4,096 bytes, a value field at most 32", groups.broken, True),
-    Reason("value", other_value, because_of_value, "Have the driver send a value that the row names", blanks=True),
-    Reason("time", wrong_time, because_of_time, "Have the driver send it where it is taken, or leave it out", blanks=True),
+    Reason("value", other_value, because_of_value, "Have the driver send a value that the row names", blanks=True, how="row"),
+    Reason("time", wrong_time, because_of_time, "Have the driver send it where it is taken, or leave it out", blanks=True, how="row"),
     Reason("a front without its back", loses_its_back, lambda *_: "the front before it goes out alone, and has no back",
-           "Send this before the first page of a leaf, or not at all within the job", groups.fronts),
+           "Send this before the first page of a leaf, or not at all within the job", groups.fronts, how="row"),
     Reason("registration", of_letters(set(REGISTERED), moves, False), registration, registration_advice),
-    Reason("top margin", margin_is_put_back, because_of_margin, "Have the driver send ESC&l#L before ESC&l#E"),
+    Reason("top margin", margin_is_put_back, because_of_margin, "Have the driver send ESC&l#L before ESC&l#E", how="row"),
     Reason("margin that is put back", lambda judge, each: spelled(each) if place_of(each) in judge.following.put_back else None,
-           following.because_put_back, "Have the driver send ESC&l#A and ESC&l#O before ESC&l#E"),
+           following.because_put_back, "Have the driver send ESC&l#A and ESC&l#O before ESC&l#E", how="row"),
     Reason("scaling", of_letters({"*tH", "*tV"}), lambda *_: "rows are not scaled; they have the size of their resolution",
            "Have the driver send a raster resolution that fits", groups.first_of_many, name_of=groups.of_a_kind),
     Reason("direction", of_letters({"&aP"}, moves, False), lambda *_: "the print direction is not carried out", "Turn the page: ESC&l#O"),
@@ -484,9 +486,9 @@ REASONS = [
            "Have the driver send ESC*r0F and rows in the direction of the page, or portrait"),
     Reason("size by dots", of_letters({"&fI", "&fJ"}), lambda *_: "a page has one of six sizes, and none by its width and length",
            f"Have the driver send ESC&l#A: {named_values.SIZES}", groups.first_of_many, name_of=groups.of_a_kind),
-    Reason("PJL variable", job_lines.other_variable, job_lines.because_of_variable, job_lines.VARIABLES, groups.variables, harmless=True, name_of=groups.job_name),
-    Reason("PJL value", job_lines.other_value, job_lines.because_of_value, job_lines.value_advice, groups.plain),
-    Reason("PJL command", job_lines.other_word, job_lines.because_of_word, job_lines.WORDS, groups.plain, harmless=True),
+    Reason("PJL variable", job_lines.other_variable, job_lines.because_of_variable, job_lines.VARIABLES, groups.variables, harmless=True, name_of=groups.job_name, how="any"),
+    Reason("PJL value", job_lines.other_value, job_lines.because_of_value, job_lines.value_advice, groups.plain, how="any"),
+    Reason("PJL command", job_lines.other_word, job_lines.because_of_word, job_lines.WORDS, groups.plain, harmless=True, how="any"),
     Reason("fonts", font, lambda *_: "fonts are left out, and text leaves no marks", "Send text as raster graphics", groups.first_of_many, name_of=groups.of_a_kind),
     Reason("steps of text", control(BACKSPACE, TAB), lambda *_: "it moves the cursor of text, which is left out, and none here",
            "Have the driver move by ESC*p#X", groups.first_of_many, name_of=groups.of_a_kind),
@@ -497,12 +499,15 @@ REASONS = [
     Reason("unknown", unknown, lambda *_: "ignored", "tools/explain says where each stands", groups.first_of_many, name_of=groups.of_a_kind),
 ]
 BY_NAME = {reason.name: reason for reason in REASONS}
+BY_HOW = {how: [reason for reason in REASONS if reason.how in (how, "any")] for how in ("row", "no row", "HP-GL/2")}
 LATE = [BY_NAME[name] for name in following.LATE]    # those that what follows decides
 
 
 def is_plain(happening):
     """A row that comes out whole meets none of them, and no place to which the cursor goes; it is asked first, since a driver sends many of these."""
     sent = happening.sent
+    if type(happening) is Row and sent is WHOLE_ROW:
+        return happening.is_changing()
     if happening.how != "row" or happening.row not in PLAIN or not (sent is WHOLE_ROW or sent is NOTHING) and (sent.right or sent.below or sent.late or sent.again):
         return False
     return happening.is_changing() or happening.row in PLAIN_VALUES and number(happening) in PLAIN_VALUES[happening.row]
@@ -513,10 +518,10 @@ PLAIN_VALUES = {"*bM": (0, 1, 2, 3, 5)}    # that change nothing where they say 
 
 
 class Judge:
-    """The reasons that the happenings of a run meet."""
+    """The reasons that the happenings of a run meet: all of them, or these."""
 
-    def __init__(self, run):
-        self.run = run
+    def __init__(self, run, some=None):
+        self.run, self.some = run, some or run
         self.language, self.left_until = None, 0    # that a line entered, and where data that was taken ends
         self.registered = {}                        # the first value of each edge for which a registration asks
         self.following = following.Following(run)
@@ -527,7 +532,7 @@ class Judge:
         """Each happening with its reason and key, or None, once all that decides them was seen: those that wait for it come later, but `in_order`, where
         what follows waits, too."""
         waiting, held, before = collections.deque(), self.following.held, None
-        for self.next in itertools.chain(self.run, [None]):
+        for self.next in itertools.chain(self.some, [None]):
             if before is not None:
                 met = None if is_plain(before) else self.first_met(before)
                 self.following.go_on(before)
@@ -557,7 +562,7 @@ class Judge:
         self.see(happening)
         if happening.how == "recorded":
             return None
-        for reason in REASONS:
+        for reason in BY_HOW[happening.how]:
             key = reason.met(self, happening)
             if key is not None:
                 return reason, key

@@ -2,7 +2,7 @@
 
 from typing import NamedTuple
 
-from model.asm import line_of_command
+from model.asm import digits_of, line_of_command
 from model.commands import Broken, Foreign, Text, command_bytes
 
 from reasons.untraced import Judge
@@ -46,6 +46,9 @@ def rows(run, judge=None, see=None):
     for happening, each in judge.judged(in_order=True):
         if see:
             see(happening, each)
+        if each is None and not some and type(happening) is happenings.Row:
+            yield row_of_transfer(happening)
+            continue
         why = each[0].because(judge, happening) if each else ""
         own = run_of(happening, why)
         if some and (own is None or own != key):
@@ -58,6 +61,12 @@ def rows(run, judge=None, see=None):
             some.append(happening)
     if some:
         yield row_of(run, some, because, met)
+
+
+def row_of_transfer(row):
+    """The row of a row within raster graphics of which nothing is to be said but what it does."""
+    text = f"par *b{row.field.decode()}W {digits_of(row.data)}".rstrip()
+    return Row(row.offset, row.offset + row.length, text, remarks.remark_of_row(row), [row], None, "")
 
 
 def row_of(run, some, because, met):

@@ -89,10 +89,12 @@ class Fields:
     def go_on_row(self, x, y, sheets, count):
         """The fields behind a row within raster graphics, which changes the cursor and the number of rows alone."""
         before = self.now
-        if count is not None:
+        if count is None:
+            count = before.row_count
+        else:
             self.is_late = True
-        self.now = Now(before.base, x, y, sheets, before.row_count if count is None else count)
-        return self.now
+        now = self.now = Now(before.base, x, y, sheets, count)
+        return now
 
 
 def named(told, view):
@@ -117,12 +119,17 @@ OTHERS = {
 }
 
 
+PLACES = {name: place for place, name in enumerate(ORDER)}
+
+
 def changes(before, after):
     """Name, value before and value after of each field that is another."""
+    found = [(name, getattr(before, name), getattr(after, name)) for name in OWN if getattr(before, name) != getattr(after, name)]
     if before.base is not after.base:
-        old, new = before.base | before.own(), after.base | after.own()
-        return tuple([(name, old[name], new[name]) for name in ORDER if old[name] != new[name]])
-    return tuple([(name, getattr(before, name), getattr(after, name)) for name in OWN if getattr(before, name) != getattr(after, name)])
+        new = after.base
+        found += [(name, old, new[name]) for name, old in before.base.items() if old != new[name]]
+        found.sort(key=lambda change: PLACES[change[0]])
+    return tuple(found)
 
 
 class State:

@@ -5,7 +5,6 @@ step are made from a few lines.
 """
 
 import array
-import json
 import tempfile
 
 from model import commands
@@ -58,7 +57,7 @@ class Film:
         placed, changed = None, True
         self.keep(fields, page, changed)
         for text in traced.texts(whole, chosen):
-            line = json.loads(text)
+            line = traced.told(text)
             if not follower.bodies:
                 placed = placer.placed(line)
                 self.starts.append(len(self.taken))
@@ -110,7 +109,7 @@ class Film:
         """What the line of this step tells, counted from 1."""
         start, end = self.ends[count - 1], self.ends[count]
         self.lines.seek(start)
-        return json.loads(self.lines.read(end - start))
+        return traced.told(self.lines.read(end - start))
 
     def from_kept(self, count):
         """The last place that is kept before so many steps, and the lines from there on."""

@@ -4,7 +4,6 @@ All of it is read from the lines of the trace, one after another, and none is he
 """
 
 import functools
-import json
 import re
 from typing import NamedTuple, Optional
 
@@ -15,8 +14,8 @@ from . import program, sent, traced
 from .bodies import Follower, Placed
 from .fields import Fields, changes, power_on
 from .leaves import Leaves
-from .patches import Open, Page, Patch
-from .placing import PARAM, Placer, row_of
+from .patches import BETWEEN, Open, Page, Patch
+from .placing import Placer, row_of
 
 LINE = rb'\{"at":(\d+),"bytes":%s,"depth":0,"last":"%s",%s"sheets":(\d+),"step":(\d+),%s"x":(-?\d+),"y":(-?\d+)\}\n'
 # A byte that is passed over, and a row within raster graphics, where nothing else is told.
@@ -24,6 +23,7 @@ BYTES = {kind: re.compile(LINE % (b"1", word, b"", b"")) for kind, word in ((com
 PATCH = rb'(?:"page":\{"height":\d+,"rows":\["([^\]]*)"\],"width":\d+,"x":(\d+),"y":(\d+)\},)?'
 ROW = re.compile(LINE % (rb"(\d+)", rb"par \*bW", PATCH, rb'(?:"view":\{"raster":\{"rows":(\d+)\}\},)?'))
 OTHER_KIND = (ord("*"), ord("b"), ord("W"))
+HEAD = re.compile(rb"(?:\x1b\*b)?([^Ww]*)[Ww]")     # of a row, and its value
 
 
 class Mark:
@@ -36,7 +36,9 @@ class Mark:
 
     def box(self):
         """Left, top, right and bottom, and how many dots are others than before, one as often as a step changed it."""
-        if self.found is None:
+        if self.found is None and len(self.patches) == 1:
+            self.found, self.patches = box_of(*self.patches[0].whole()), None
+        elif self.found is None:
             self.found, *others = [box_of(*each.whole()) for each in self.patches]
             for left, top, right, bottom, dots in others:
                 box = self.found
@@ -57,7 +59,8 @@ def box_of(left, top, rows, old):
     """The box of what a patch changes, which begins at a byte and a line, with its rows and the whole ones that were there; and how many dots."""
     end = 8 * (left + len(rows[0]))
     if len(rows) == 1:
-        dots = int.from_bytes(old[0][left:left + len(rows[0])], "big") ^ int.from_bytes(rows[0], "big")
+        row = rows[0]
+        dots = int.from_bytes(old[0][left:left + len(row)], "big") ^ int.from_bytes(row, "big")
         return end - dots.bit_length(), top, end - (dots & -dots).bit_length(), top, dots.bit_count()
     changed = [int.from_bytes(before[left:left + len(row)], "big") ^ int.from_bytes(row, "big") for row, before in zip(rows, old)]
     dots, lines = 0, [line for line, some in enumerate(changed, top) if some]
@@ -122,6 +125,11 @@ class Row:
             self.marked = () if self.patch is None else (Mark(self.page, [self.patch]),)
         return self.marked
 
+    def size(self):
+        """Width and height of what it marks."""
+        left, top, right, bottom, _ = box_of(*self.patch.whole())
+        return right - left + 1, bottom - top + 1
+
     @property
     def resolution(self):
         return self.now.base["resolution"]
@@ -131,6 +139,25 @@ class Row:
 
     def marks_its_page(self):
         return self.patch is not None
+
+
+def together(some):
+    """Happenings, but of rows that come out whole one behind the other the first alone, and the last that marks, which stands for the others."""
+    held, count, before = None, 0, False
+    for each in some:
+        whole = type(each) is Row and each.sent is sent.WHOLE_ROW and each.is_changing()
+        if whole and before:
+            held, count = each if held is None or each.patch is not None else held, count + 1
+            continue
+        if held is not None:
+            held.sent = sent.Sent(count)
+            yield held
+            held, count = None, 0
+        before = whole
+        yield each
+    if held is not None:
+        held.sent = sent.Sent(count)
+        yield held
 
 
 def of_step(line, step, page, patch=None):
@@ -162,8 +189,8 @@ class Marks(Open):
         """What a line lays over the page, before that goes on by it."""
         told = line["page"]
         page = Page(*line["opened"]) if "opened" in line else self.page
-        patch = Patch(page, told["x"] // 8, told["y"], told["rows"])
-        patch.old = page.rows[patch.top:patch.top + len(patch.spelled)]
+        patch = Patch(page, told["x"] // 8, told["y"], BETWEEN.join(told["rows"]).encode())
+        patch.old = page.rows[patch.top:patch.top + told["height"]]
         return patch
 
     def taken(self):
@@ -190,18 +217,18 @@ class Run:
         self.leaves, self.marks, self.watcher = Leaves(), Marks(), sent.Watcher()
         self.placer = Placer(self.whole, len(front))
         self.front, self.end, self.steps = [], None, 0
+        self.base = None      # fields with which a row within raster graphics is carried out
 
     def __iter__(self):
         """The happenings; those of the front, and that of the exit that is added at the end, stand by themselves."""
-        alone = False
+        alone, quick = False, self.watch is None or self.watch_row is not None
         while True:
             text = self.next_text()
-            found = ROW.fullmatch(text)
-            if found and (self.watch is None or self.watch_row) and (happening := self.carry_out_row(found)) is not None:
+            if quick and (found := ROW.fullmatch(text)) and (self.fields.now.base is self.base or self.takes_rows()):
                 alone = False
-                yield happening
+                yield self.carry_out_row(found)
                 continue
-            line = json.loads(text)
+            line = traced.told(text)
             placed = self.placer.placed(line)
             if not placed.length:
                 break
@@ -246,28 +273,31 @@ class Run:
             return self.carry_out(line, placed)
         watch, self.watch = self.watch, None
         happening = self.carry_out(line, placed)
-        self.watch, last = watch, json.loads(last)
+        self.watch, last = watch, traced.told(last)
         now = self.follower.fields = self.fields.go_on(last)
         if watch:
             watch(self, last, None)
         return happening._replace(placed=placed._replace(length=place - line["at"]), resolution=now["resolution"], before=before)
 
+    def takes_rows(self):
+        """Whether a row would be carried out, within raster graphics."""
+        base = self.fields.now.base
+        takes = base.get("defining", 0) is None and not base["hpgl"] and base["raster_on"]
+        self.base = base if takes else None
+        return takes
+
     def carry_out_row(self, found):
-        """A row within raster graphics, of the line that was matched; None where it may be another thing than a row that is carried out."""
-        before, base = self.follower.fields, self.fields.now.base
-        if base.get("defining", 0) is not None or base["hpgl"] or not base["raster_on"]:
-            return None
+        """A row within raster graphics, of the line that was matched."""
         at, size, rows, left, top, sheets, step, count, x, y = found.groups()
-        place, size, patch = int(at), int(size), None
-        spelled = self.whole[place:place + size]
-        field = PARAM.match(spelled)
-        data = spelled[field.end():]
-        self.placer.before = "par *bW", spelled
+        place, size, patch, before, placer = int(at), int(size), None, self.fields.now, self.placer
+        field = HEAD.match(self.whole, place)
+        begins = field.end()
+        data, placer.before = self.whole[begins:place + size], ("par *bW", self.whole[place:begins])
         if rows is not None:
-            patch = self.marks.page.lay_later(int(left) // 8, int(top), rows.decode().split('","'))
+            patch = self.marks.page.lay_later(int(left) // 8, int(top), rows)
         gone = self.watcher.of_rows(before, data, rows is not None)
         now = self.follower.fields = self.fields.go_on_row(int(x), int(y), int(sheets), count and int(count))
-        row = Row(place - self.placer.shift, size, field[1], data, before, now, self.leaves.closed, gone, patch)
+        row = Row(place - placer.shift, size, field[1], data, before, now, self.leaves.closed, gone, patch)
         if self.watch_row:
             self.watch_row(self, int(step), row, count is not None)
         return row
@@ -277,7 +307,7 @@ class Run:
         before, page, first, depth, closes, sheets, replies, count, gone = self.follower.fields, self.leaves.closed, None, 0, 0, [], "", 0, sent.NOTHING
         while first is None or self.follower.bodies:
             if first is not None:
-                line = json.loads(self.next_text())
+                line = traced.told(self.next_text())
                 if line["at"] != placed.offset + self.placer.shift or line["bytes"] != placed.length:
                     raise ValueError(f"step {line['step']} stands at byte {line['at']}, and the command at {placed.offset + self.placer.shift}")
             step, closed, sheet, one = self.take(line, placed)

@@ -6,10 +6,12 @@ from .printable import printable
 
 
 MOST_WAITING = 4096    # patches of a page that wait to be laid over it
+BETWEEN = '","'        # what stands between the rows of a patch in a line
 
 
 class Patch:
-    """Rows that are laid over a page, from a byte and a line on; those that they replaced are known once they are laid."""
+    """Rows that are laid over a page, from a byte and a line on, as a line of the trace spells them; those that they replaced are known once they are
+    laid."""
 
     __slots__ = "page", "left", "top", "spelled", "made", "old"
 
@@ -18,8 +20,12 @@ class Patch:
 
     def rows(self):
         if self.made is None:
-            self.made = [bytes.fromhex(row) for row in self.spelled]
+            self.made = [bytes.fromhex(row) for row in self.spelled.decode().split(BETWEEN)]
         return self.made
+
+    def count(self):
+        """How many rows it has."""
+        return self.spelled.count(b",") + 1
 
     def whole(self):
         """Its byte and line, its rows, and those that they replaced."""
@@ -46,13 +52,13 @@ class Page:
     def lay_waiting(self):
         waiting, self.waiting = self.waiting, []
         for patch in waiting:
-            patch.old = self.lay_rows(patch.left, patch.top, patch.rows())
+            patch.old = replaced(self.laid, patch.left, patch.top, patch.rows())
 
     def lay_later(self, left, top, spelled):
         """A patch that is laid when the rows are asked for."""
-        patch = Patch(self, left, top, spelled)
-        self.waiting.append(patch)
-        if len(self.waiting) > MOST_WAITING:
+        patch, waiting = Patch(self, left, top, spelled), self.waiting
+        waiting.append(patch)
+        if len(waiting) > MOST_WAITING:
             self.lay_waiting()
         return patch
 
@@ -62,17 +68,23 @@ class Page:
 
     def lay_rows(self, left, top, rows):
         """The same of rows that begin at a byte and a line."""
-        old, laid = [], self.rows
-        for number, new in enumerate(rows, top):
-            row = laid[number]
-            old.append(row)
-            laid[number] = row[:left] + new + row[left + len(new):]
-        return old
+        return replaced(self.rows, left, top, rows)
 
     def copy(self):
         other = Page(self.width, 0)
         other.height, other.laid = self.height, list(self.rows)
         return other
+
+
+def replaced(laid, left, top, rows):
+    """The rows of a page that are no longer there once others are laid over them, from a byte and a line on."""
+    old = []
+    for new in rows:
+        row = laid[top]
+        old.append(row)
+        laid[top] = row[:left] + new + row[left + len(new):]
+        top += 1
+    return old
 
 
 class Open:

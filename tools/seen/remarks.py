@@ -10,7 +10,7 @@ from model.values import POSITIONS_PER_INCH
 
 from . import names
 from .fields import NAMES, SIZES
-from .happenings import Row
+from .happenings import OTHER_KIND, Row
 
 LINE_END = b"\r\n"
 COMMANDS = {Escape: "escape", Param: "parameter", Control: "control", Text: "text", Broken: "broken", Uel: "universal exit",
@@ -272,18 +272,24 @@ class Remark(NamedTuple):
 ROW_NAME, ROW_KIND = names.PARAMS["*bW"].name, "par *bW"
 
 
+@functools.lru_cache(maxsize=4096)
+def row_named(field):
+    """How a row with this value is spelled, and what it is."""
+    return f"ESC*b{field.decode()}W", ROW_NAME + value_without_data(*OTHER_KIND[:2], field, OTHER_KIND[2])
+
+
 def remark_of_row(row):
     """The remark on a row within raster graphics of which nothing is to be said but what it does."""
     told, before, now = [], row.before, row.now
     if row.patch is not None:
-        told.append("marks %d by %d dots" % row.marks[0].size())
+        told.append("marks %d by %d dots" % row.size())
     if before.x != now.x:
         told.append(change("x", before.x, now.x, row.resolution))
     if before.y != now.y:
-        told.append(f"y {before.y} to {now.y}{unit_of_positions(now.y - before.y, row.resolution)}")
+        told.append(f"y {before.y} to {now.y}{unit_of_positions(now.y - before.y, now.base['resolution'])}")
     if before.row_count != now.row_count:
         told.append(f"raster rows {before.row_count} to {now.row_count}")
-    return Remark(str(row.offset), f"ESC*b{row.field.decode()}W", ROW_NAME + value_without_data(*row.placed.command[:4]), "; ".join(told) or "changes nothing")
+    return Remark(str(row.offset), *row_named(row.field), "; ".join(told) or "changes nothing")
 
 
 def remark(happening, pattern_id=0, because=""):
@@ -318,7 +324,8 @@ class Tally:
 
     def add(self, happening):
         kind, count = (ROW_KIND, 1) if type(happening) is Row else (kind_of(happening.placed.command), happening.placed.count())
-        some = self.kinds.setdefault(kind, [0, 0])
+        if (some := self.kinds.get(kind)) is None:
+            some = self.kinds[kind] = [0, 0]
         some[0] += count
         some[1] += happening.row is not None
 

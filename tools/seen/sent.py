@@ -61,18 +61,19 @@ class Seed:
     def follow(self, method, data):
         """The next row."""
         reach = REACHES[method](data)
-        if method == rows.DELTA_ROW:
-            self.waiting.append((method, data))
-            self.replaced = max(self.replaced, reach)
-        else:
+        if method != rows.DELTA_ROW:
             self.waiting, self.reach, self.replaced = [(method, data)], reach, 0
+            return
+        self.waiting.append((method, data))
+        if reach > self.replaced:
+            self.replaced = reach
 
     def fits(self, room):
         """Whether no dot is lost of as many bytes as it may reach; of a row by itself these are counted where it could be too many."""
-        if self.reach <= room and self.replaced <= room:
+        if self.reach <= room >= self.replaced:
             return True
         self.decoded()
-        return self.reach <= room and self.replaced <= room
+        return self.reach <= room >= self.replaced
 
     def is_white(self):
         return not self.reach and not self.replaced
@@ -189,10 +190,12 @@ class Watcher:
         """What a row sends that goes to this place; of one that marks the page, and loses none, its dots are not counted."""
         if strip.height is not None and count >= strip.height:
             return LATE_ROW
-        seed = self.seed
+        seed, room = self.seed, strip.bytes
         seed.follow(method, data)
+        if data and marks and seed.reach <= room >= seed.replaced and y < strip.end:
+            return WHOLE_ROW     # as most of a driver's
         again = seed.count_black() if not data and method == rows.DELTA_ROW else 0
-        if seed.is_white() or marks and not strip.is_below(y) and seed.fits(strip.bytes):
+        if seed.is_white() or marks and y < strip.end and seed.fits(room):
             sent = WHOLE_ROW
         else:
             sent = strip.sent(y, seed.decoded())
@@ -216,21 +219,19 @@ class Strip:
 
     def __init__(self, now):
         state = State(now)
-        frame_width, self.frame_height = pages.frame(state.size, state.orientation)
-        self.base, self.height, self.top = now.base, state.source_height, state.top_margin
-        self.step, self.dot = POSITIONS_PER_INCH // state.raster_resolution, dot_positions(state.resolution)
+        frame_width, frame_height = pages.frame(state.size, state.orientation)
+        self.base, self.height = now.base, state.source_height
+        self.step = POSITIONS_PER_INCH // state.raster_resolution
+        self.end = frame_height * dot_positions(state.resolution) - state.top_margin    # from here on a row stands below the page
         self.lowest = state.logical_length() - state.top_margin
         wide, column = state.resolution // state.raster_resolution, marks.column_of(state, state.raster_left)
         self.room = min(marks.row_width(state), max(0, marks.ceiling(frame_width - column, wide)))
         self.bytes = self.room // 8     # of so many no dot is lost
 
-    def is_below(self, y):
-        return (y + self.top) // self.dot >= self.frame_height
-
     def sent(self, y, row):
         number = int.from_bytes(row, "big")
         black, inside = number.bit_count(), (number >> max(0, 8 * len(row) - self.room)).bit_count()
-        below = inside if self.is_below(y) else 0
+        below = inside if y >= self.end else 0
         return Sent(1, black, black - inside, below, 0)
 
 

@@ -26,6 +26,9 @@ MOST_PICTURES = 500
 NONE = -1
 
 
+as_json = json.JSONEncoder(separators=(",", ":")).encode
+
+
 def packed(data):
     return base64.b64encode(zlib.compress(data, LEVEL)).decode()
 
@@ -51,7 +54,7 @@ class FilmPage:
 
     def __init__(self, width, height, first):
         self.width, self.height, self.first, self.last = width, height, first, NONE
-        self.boxes = [[], [], [], [], []]   # entry, left byte, top, bytes across, lines
+        self.boxes = [array.array("i") for _ in range(5)]   # entry, left byte, top, bytes across, lines
         self.data, self.chunks = bytearray(), []
         self.hashes = None
 
@@ -98,7 +101,7 @@ class Recorder:
         self.flags.append(line["depth"] + 8 * ("delivered" in line) + 16 * ("reply" in line) + 32 * ("recorded" in line))
         if "reply" in line:
             self.replies.append([entry, remarks.readable(line["reply"].encode("latin-1"), 400)])
-        self.keep_fields(run, line.get("view", 0))
+        self.keep_fields(run, as_json(line.get("view", 0)))
 
     def row(self, run, step, row, is_counted):
         """The same of a row within raster graphics."""
@@ -106,7 +109,7 @@ class Recorder:
             self.open.add(len(self.flags), row.patch.left, row.patch.top, row.patch.rows())
         self.keep_columns(step, row.now, NONE, self.stacks.setdefault((), len(self.stacks)))
         self.flags.append(0)
-        self.keep_fields(run, {"raster": {"rows": row.now.row_count}} if is_counted else 0)
+        self.keep_fields(run, '{"raster":{"rows":%d}}' % row.now.row_count if is_counted else "0")
 
     def keep_columns(self, step, now, own, stack):
         across, down = happenings.cursor_dot(now)
@@ -132,16 +135,16 @@ class Recorder:
             self.open.add(entry, patch["x"] // 8, patch["y"], [bytes.fromhex(row) for row in patch["rows"]])
 
     def keep_fields(self, run, view):
-        """What changed; a chunk begins with all fields."""
+        """What changed, as JSON; a chunk begins with all fields."""
         if not self.part:
-            self.part.append({name: dict(some) for name, some in run.fields.whole_view().items()})
+            self.part.append(as_json(run.fields.whole_view()))
         self.part.append(view)
         if len(self.part) > ENTRIES_IN_CHUNK:
             self.end_fields()
 
     def end_fields(self):
         if self.part:
-            self.fields.append(packed(json.dumps(self.part, separators=(",", ":")).encode()))
+            self.fields.append(packed(f"[{','.join(self.part)}]".encode()))
             self.part = []
 
     def end(self):
@@ -173,8 +176,12 @@ class Listing:
     def texts(self):
         """Of each row, and of the end: text, place, how it is spelled, what it is, its effect, flags, and why it leaves no trace, in a few words."""
         for row in rows(self.run, self.seen.judge, self.see):
-            self.note(row.offset, 1 if type(row.happenings[0]) is happenings.Row else sum(1 + each.bodies for each in row.happenings))
             place, spelled, what, effect = row.told
+            if row.met is None and type(row.happenings[0]) is happenings.Row:
+                self.note(row.offset, 1)
+                yield [shortened(row.text), place, spelled, what, effect, 0, ""]
+                continue
+            self.note(row.offset, sum(1 + each.bodies for each in row.happenings))
             effect = shortened(cause_first(effect, row.because) if row.because else effect, LONGEST_REMARK)
             yield [shortened(row.text), place, shortened(spelled, LONGEST_REMARK), shortened(what, LONGEST_REMARK), effect, flags_of(row), cause_of(row.met)]
         self.note(len(self.run.stream), 1)
@@ -208,8 +215,6 @@ def cause_of(met):
 
 def flags_of(row):
     first = row.happenings[0]
-    if type(first) is happenings.Row and row.met is None:
-        return 0
     ignored = first.how in ("no row", "HP-GL/2")
     wrong = row.met is not None and not row.met[0].harmless
     return (IGNORED * ignored + SENDS * any(each.sheets for each in row.happenings) + REPLIES * any(each.replies for each in row.happenings)

@@ -7,6 +7,7 @@ import tempfile
 from . import program
 
 AT_ONCE = 1 << 16     # bytes that are read
+DECODER = json.JSONDecoder()
 
 
 def who(chosen=program.PROGRAM):
@@ -27,6 +28,11 @@ def texts(stream, chosen=program.PROGRAM):
             raise OSError(f"press trace: {said.read().decode(errors='replace').strip()}")
 
 
+def told(text):
+    """What a line tells."""
+    return DECODER.raw_decode(text.decode())[0]
+
+
 def lines(stream, chosen=program.PROGRAM):
     """What each line tells."""
-    return map(json.loads, texts(stream, chosen))
+    return map(told, texts(stream, chosen))
