@@ -24,7 +24,7 @@ from seen import kit, program
 
 ROOT = program.ROOT
 FOLDER = ROOT / "out" / "compiling"
-RECORD = ROOT / "out" / "compiled"
+RECORD = standing.COMPILED
 CRATE = program.PROGRAM.parent.parent
 TARGET = "x86_64-unknown-linux-gnu"
 FLAGS = [word for flag in ("relocation-model=pic", "no-trap-after-noreturn", "trap-unreachable", "no-x86-call-frame-opt", "disable-machine-licm",

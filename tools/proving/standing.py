@@ -8,6 +8,7 @@ kit; the proofs are not, since a proof that is changed takes nothing from a prog
 
 import hashlib
 import os
+import subprocess
 import time
 
 from proving import sources
@@ -15,7 +16,7 @@ from seen import program
 
 ROOT = program.ROOT
 PARTS = ("src", "specs")
-PROVED = ROOT / "out" / "proved"
+PROVED, COMPILED = ROOT / "out" / "proved", ROOT / "out" / "compiled"
 SETTLED = 1.0    # seconds after which a file's time tells it from one that was written later
 
 
@@ -60,6 +61,21 @@ def date(record, since):
         os.utime(record, (since - SETTLED, since - SETTLED))
     except OSError:
         pass   # the next call compares again
+
+
+def at_a_glance():
+    """The program of a record since which neither it, nor the sources, nor the kit was touched, as `press` looks; None where the sums have to decide."""
+    for record in (PROVED, COMPILED):
+        try:
+            kit_file, named = record.read_text(encoding="utf-8").splitlines()[:2]
+        except (OSError, ValueError):
+            continue
+        made = program.PROGRAM if record == PROVED else record.parent / named
+        paths = [path for part in PARTS for path in (ROOT / "crates").glob(f"*/{part}")]
+        asked = ["find", *paths, ROOT / "crates.txt", *filter(None, [kit_file]), made, "-cnewer", record, "-print", "-quit"]
+        if os.access(made, os.X_OK) and not subprocess.run(asked, stdout=subprocess.PIPE, stderr=subprocess.STDOUT, check=False).stdout:
+            return made
+    return None
 
 
 def note_proved(given, by, since):

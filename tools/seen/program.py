@@ -25,7 +25,13 @@ def answering(chosen=PROGRAM):
     """The program that is asked: one that the caller chose, or else the one that `press` runs, proved here or elsewhere, or compiled of the sources."""
     if chosen != PROGRAM:
         return chosen
-    from proving import compiled, elsewhere, standing   # they stand on this module
+    from proving import standing   # it stands on this module, as do those that find the program where the times do not tell
+    return standing.at_a_glance() or found()
+
+
+def found():
+    """The program that the sums tell, compiled if it does not stand."""
+    from proving import compiled, elsewhere, standing
     return PROGRAM if standing.proved() is not None else elsewhere.find() or compiled.find()
 
 
