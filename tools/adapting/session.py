@@ -4,8 +4,7 @@ import os
 import re
 from pathlib import Path
 
-from model import defaults
-from seen import drawn, film, made, program
+from seen import drawn, film, made, options, program
 from seen.fields import State
 from seen.patches import Page
 from seen.printable import printable
@@ -333,6 +332,6 @@ def places_beside(path, text, page):
 def front_of(asked):
     words = asked.given("defaults", list, dict) or []
     try:
-        return defaults.front([f"{name}={value}" for name, value in words.items()] if isinstance(words, dict) else asked.texts("defaults"))
-    except defaults.Refused as refused:
-        raise Refused(f"{refused} sets no variable of the job language to a value that it has") from None
+        return options.front_of([f"{name}={value}" for name, value in words.items()] if isinstance(words, dict) else asked.texts("defaults"))
+    except ValueError as refused:
+        raise Refused(str(refused)) from None

@@ -26,14 +26,6 @@ class Parser(argparse.ArgumentParser):
         sys.exit(REFUSED)
 
 
-def front_of(some):
-    """The bytes in front of the stream for these defaults."""
-    try:
-        return defaults.front(some)
-    except defaults.Refused as refused:
-        raise ValueError(f"{refused} sets no variable of the job language to a value that it has") from None
-
-
 def status_of(tool, main, words):
     """The status of a tool: what ends it is told in words, and is 2."""
     try:

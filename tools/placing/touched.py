@@ -8,7 +8,7 @@ TOUCHED = {
         crates/press_ticket/src/media.rt crates/press_ticket/src/parts.rt crates/press_writer/specs/Medium.antt crates/press_writer/src/media.rt
         crates/press_words/src/words.rt tools/model/pages.py tools/model/pjl.py tools/model/table.py tools/model/streams.py tools/model/writer.py
         tools/model/switches/pages.py tools/model/switches/language.py tools/asked/sheets.py tools/asked/jobs.py tools/asked/job_language.py
-        tools/completions.bash tools/seen/names.py tools/seen/fields.py docs/TICKETS.md README.md""",
+        tools/completions.bash docs/TICKETS.md README.md""",
     "BINDING": """
         crates/press_pjl/specs/Names.antt crates/press_pjl/specs/Variables.antt crates/press_pjl/src/named.rt crates/press_pjl/src/variable.rt
         crates/press_pjl/src/environment.rt crates/press_page/src/environment.rt crates/press_page/specs/Environment.antt crates/press_words/src/words.rt

@@ -3,7 +3,7 @@
 from typing import Callable, NamedTuple
 
 from model import pages, table
-from model.values import HMI_UNIT, UNITS_OF_MEASURE, VMI_UNIT, Value, to_position
+from model.values import UNITS_OF_MEASURE, Value, to_position
 
 
 class Named(NamedTuple):

@@ -15,7 +15,6 @@ from model.engine import is_reset
 from model.values import POSITIONS_PER_INCH
 from seen import names, remarks
 from seen.happenings import Row
-from seen.placing import row_of
 from seen.sent import NOTHING, WHOLE_ROW, letters
 
 from . import following, groups, job_lines, named_values

@@ -12,7 +12,6 @@ from . import happenings, remarks
 
 class Row(NamedTuple):
     offset: int
-    end: int            # behind its last byte
     text: str           # a line of assembly text
     told: remarks.Remark   # where it stands, what it is and does
     happenings: list
@@ -66,17 +65,17 @@ def rows(run, judge=None, see=None):
 def row_of_transfer(row):
     """The row of a row within raster graphics of which nothing is to be said but what it does."""
     text = f"par *b{row.field.decode()}W {digits_of(row.data)}".rstrip()
-    return Row(row.offset, row.offset + row.length, text, remarks.remark_of_row(row), [row], None, "")
+    return Row(row.offset, text, remarks.remark_of_row(row), [row], None, "")
 
 
 def row_of(run, some, because, met):
-    first, last = some[0], some[-1].placed
+    first = some[0]
     if len(some) > 1 or type(first) is not happenings.Row and first.placed.count() > 1:
         data = b"".join(bytes_of(happening.placed, run.stream) for happening in some)
         text, told = line_of_command(Broken(data)), remarks.of_run(some, data, because)
     else:
         text, told = line_of_command(first.placed.command), remarks.remark(first, first.before["pattern_id"], because)
-    return Row(first.placed.offset, last.offset + last.length, text, told, some, met, because)
+    return Row(first.placed.offset, text, told, some, met, because)
 
 
 END = "the end, where the press adds a universal exit"

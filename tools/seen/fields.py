@@ -6,8 +6,8 @@ from model import pages
 from model.values import POSITIONS_PER_INCH
 
 from . import program, traced
+from .names import SIZES
 
-SIZES = {1: "Executive", 2: "Letter", 3: "Legal", 6: "Ledger", 26: "A4", 27: "A3"}
 BINDINGS = {1: "LONGEDGE", 2: "SHORTEDGE"}
 NAMES = {
     "drawing": {"height": "rectangle_height", "width": "rectangle_width", "id": "pattern_id", "pattern_opaque": "pattern_opaque",
@@ -63,7 +63,6 @@ class Fields:
     def __init__(self):
         self.view = {}
         self.now = Now({}, 0, 0, 0, 0)
-        self.places = {}    # numbers that came before, so that each is kept once
         self.is_late = False   # whether the view has another number of rows than there are now
 
     def whole_view(self):
@@ -82,8 +81,7 @@ class Fields:
             row_count = self.view["raster"]["rows"] or 0
             if view.keys() != {"raster"} or view["raster"].keys() != {"rows"} or view["raster"]["rows"] is None:
                 base = {**base, **named(view, self.view)}
-        x, y, kept = line["x"], line["y"], self.places
-        self.now = Now(base, kept.setdefault(x, x), kept.setdefault(y, y), line["sheets"], row_count)
+        self.now = Now(base, line["x"], line["y"], line["sheets"], row_count)
         return self.now
 
     def go_on_row(self, x, y, sheets, count):

@@ -7,6 +7,8 @@ appendix "PCL at a Glance".)
 
 from typing import NamedTuple
 
+from model.table import PAGE_SIZES as SIZES
+
 
 class Named(NamedTuple):
     name: str
@@ -15,7 +17,6 @@ class Named(NamedTuple):
 
 
 ON_OFF = {0: "off", 1: "on"}
-SIZES = {1: "Executive", 2: "Letter", 3: "Legal", 6: "Ledger", 26: "A4", 27: "A3"}
 PATTERN_KINDS = {0: "solid black", 1: "solid white", 2: "shading", 3: "cross-hatch", 4: "user-defined"}
 
 CONTROLS = {

@@ -9,7 +9,12 @@ def front_and_rest(words):
     while words[place:place + 1] == [defaults.OPTION]:
         front += words[place + 1:place + 2] or [""]
         place += 2
+    return front_of(front), words[place:]
+
+
+def front_of(some):
+    """The bytes in front of the stream for these defaults."""
     try:
-        return defaults.front(front), words[place:]
+        return defaults.front(some)
     except defaults.Refused as refused:
         raise ValueError(f"{refused} sets no variable of the job language to a value that it has") from None

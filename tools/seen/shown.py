@@ -9,6 +9,7 @@ import base64
 import bisect
 import itertools
 import json
+import operator
 import sys
 import zlib
 
@@ -35,7 +36,7 @@ def packed(data):
 
 def column(numbers):
     """Whole numbers of 32 bits, the lowest byte first, as differences: the first bytes of all, then the second ones.."""
-    differences = array.array("i", map(int.__sub__, numbers, itertools.chain([0], numbers)))
+    differences = array.array("i", map(operator.sub, numbers, itertools.chain([0], numbers)))
     if sys.byteorder == "big":
         differences.byteswap()
     data = differences.tobytes()
