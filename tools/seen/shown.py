@@ -24,6 +24,7 @@ LONGEST_LINE, LONGEST_REMARK = 120, 1000
 NO_SUCH_VALUE = {"resolution", "method", "value", "PJL value"}    # reasons of a value that a row does not name
 IGNORED, SENDS, REPLIES, WRONG = 1, 2, 4, 8
 MOST_PICTURES = 500
+COLUMNS = ("step", "x", "y", "across", "down", "own", "stack", "page", "sheets")
 NONE = -1
 
 
@@ -55,14 +56,13 @@ class FilmPage:
 
     def __init__(self, width, height, first):
         self.width, self.height, self.first, self.last = width, height, first, NONE
-        self.boxes = [array.array("i") for _ in range(5)]   # entry, left byte, top, bytes across, lines
+        self.boxes = array.array("i")     # of each patch entry, left byte, top, bytes across, lines
         self.data, self.chunks = bytearray(), []
         self.hashes = None
 
     def add(self, entry, left, top, rows):
         """A patch, which begins at this byte and line."""
-        for some, number in zip(self.boxes, (entry, left, top, len(rows[0]), len(rows))):
-            some.append(number)
+        self.boxes.extend((entry, left, top, len(rows[0]), len(rows)))
         self.data += rows[0] if len(rows) == 1 else b"".join(rows)
         while len(self.data) >= BYTES_IN_CHUNK:
             self.chunks.append(packed(bytes(self.data[:BYTES_IN_CHUNK])))
@@ -79,7 +79,7 @@ class FilmPage:
             self.data.clear()
 
     def value(self):
-        return {"width": self.width, "height": self.height, "first": self.first, "last": self.last, "boxes": [column(some) for some in self.boxes],
+        return {"width": self.width, "height": self.height, "first": self.first, "last": self.last, "boxes": [column(self.boxes[place::5]) for place in range(5)],
                 "chunks": self.chunks}
 
 
@@ -87,8 +87,7 @@ class Recorder:
     """Watches a run, and keeps what the page shows of each entry."""
 
     def __init__(self):
-        self.columns = {name: array.array("i") for name in ("step", "x", "y", "across", "down", "own", "stack", "page", "sheets")}
-        self.entries = []     # those that are not in the columns yet
+        self.numbers = array.array("i")     # of each entry those of its columns
         self.flags, self.pages, self.replies, self.fields, self.part = bytearray(), [], [], [], []
         self.stacks = {}
         self.film_of = {}     # the page of the film, by its number among those that closed
@@ -114,14 +113,11 @@ class Recorder:
 
     def keep_columns(self, step, now, own, stack):
         across, down = happenings.cursor_dot(now)
-        self.entries.append((step, now.x, now.y, across, down, own, stack, NONE if self.open is None else len(self.pages) - 1, now.total))
-        if len(self.entries) >= ENTRIES_IN_CHUNK:
-            self.end_columns()
+        self.numbers.extend((step, now.x, now.y, across, down, own, stack, NONE if self.open is None else len(self.pages) - 1, now.total))
 
-    def end_columns(self):
-        for some, numbers in zip(self.columns.values(), zip(*self.entries)):
-            some.extend(numbers)
-        self.entries = []
+    def columns(self):
+        """The numbers of all entries, by what they tell."""
+        return {name: self.numbers[place::len(COLUMNS)] for place, name in enumerate(COLUMNS)}
 
     def follow_page(self, run, line, entry):
         patch = line.get("page", ())
@@ -150,7 +146,6 @@ class Recorder:
 
     def end(self):
         self.end_fields()
-        self.end_columns()
         if self.open is not None:
             self.open.end()
 
@@ -262,7 +257,7 @@ def data_of(stream, front, chosen, name):
     texts = list(chunked(listed.texts(), ROWS_IN_CHUNK))
     recorder.end()
     findings = list(listed.findings(name))
-    starts, columns = listed.starts, recorder.columns
+    starts, columns = listed.starts, recorder.columns()
     columns["own"] = [NONE if offset < 0 else bisect.bisect_right(starts, offset) - 1 for offset in columns["own"]]
     printed = [side_value(run, recorder, number, data, each)
                for number, (data, each) in enumerate(zip(sides.packed_sides(run), listed.seen.sides.found))]
