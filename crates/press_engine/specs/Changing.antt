@@ -1,5 +1,5 @@
 -- Commands that do no more than change the machine.
-use Rattle.std.specs.Prelude.{◌≡◌, ℕ, Bool, true, false, Option, Some, None}
+use Rattle.std.specs.Prelude.{◌≡◌, ℕ, Bool, true, false, Option, Some}
 use Rattle.press_cmd.specs.Token.{Token}
 use Rattle.press_engine.specs.declared.machine.Machine.{Machine}
 use Rattle.press_engine.specs.Begun.{begins, begun_only}

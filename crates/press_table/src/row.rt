@@ -57,23 +57,22 @@ impl State {
         ensures memory { IsErr result
             → TakesMemory (table_row source operation (token command.now) self.old) }
     {
-        let value = command.value();
         match operation {
             Operation::CarriageReturn => Ok(self.carriage_return(source)),
             Operation::LineFeed => Ok(self.line_feed(source)),
             Operation::FormFeed => Ok(self.form_feed()),
             Operation::HalfLineFeed => Ok(self.half_line_feed(source)),
             Operation::Reset => Ok(self.reset()),
-            Operation::SelectPageSide => Ok(self.select_page_side(value)),
-            Operation::SelectPageSize => Ok(self.select_page_size(value)),
+            Operation::SelectPageSide => Ok(self.select_page_side(command.value())),
+            Operation::SelectPageSize => Ok(self.select_page_size(command.value())),
             Operation::EjectPage => Ok(self.eject_page()),
-            Operation::SelectOrientation => Ok(self.select_orientation(value)),
-            Operation::SelectDuplex => Ok(self.select_duplex(value)),
-            Operation::Fill => self.fill(alloc, value),
+            Operation::SelectOrientation => Ok(self.select_orientation(command.value())),
+            Operation::SelectDuplex => Ok(self.select_duplex(command.value())),
+            Operation::Fill => self.fill(alloc, command.value()),
             Operation::DefinePattern => self.define_pattern(command.data()),
             // taken before this match by `row`
             Operation::TransferRow => self.transfer(alloc, command.data()),
-            Operation::ControlMacro => self.control_macro(source, value),
+            Operation::ControlMacro => self.control_macro(source, command.value()),
             Operation::JobLanguage => self.job_language(alloc, command.line()),
             plain => {
                 self.set_by(plain, command);

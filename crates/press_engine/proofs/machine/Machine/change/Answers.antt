@@ -1,7 +1,6 @@
 use Rattle.std.proofs.Common.{◌≡◌, ◌∙◌, rules, sym}
 use Rattle.press_cmd.specs.Kinds.{kind_of}
 use Rattle.press_cmd.specs.View.{token}
-use Rattle.press_cmd.specs.declared.variant.Kind.{Kind}
 use Rattle.press_table.specs.Changing.{OnlyChanges}
 use Rattle.press_table.specs.Counts.{counted}
 use Rattle.press_engine.specs.Begun.{begun_only}
