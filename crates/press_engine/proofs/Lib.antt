@@ -1,5 +1,6 @@
 -- The lemmas on the engine: its steps, macros and items, and what goes out.
 pub mod BegunLemmas
+pub mod ChangingLaws
 pub mod CommandItems
 pub mod DepthLaws
 pub mod EndsLemmas

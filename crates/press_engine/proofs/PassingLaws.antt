@@ -33,12 +33,12 @@ one-passed command machine none =
     ap (λ (effect : Effect). begun_items (inside_of (trace_at 1)) (begun_outside macro_levels (taken command machine) effect)) none
     ∙ ap (λ (next : Machine). silent next ∷ []) (taken-passed command machine none)
 
-run-cons : (command : Token) (commands : List Token) (machine next : Machine) → trace_at macro_levels command machine ≡ silent next ∷ [] → told_all (command ∷ commands) machine ≡ told_all commands next
+pub run-cons : (command : Token) (commands : List Token) (machine next : Machine) → trace_at macro_levels command machine ≡ silent next ∷ [] → told_all (command ∷ commands) machine ≡ told_all commands next
 unfolding trace_each
 run-cons command commands machine next is =
     ap (λ (items : List StepResult). told_by (items ++ trace commands (last_machine machine items)) machine) is
 
-run-none : (machine : Machine) → told_all [] machine ≡ silent machine
+pub run-none : (machine : Machine) → told_all [] machine ≡ silent machine
 unfolding trace_each
 run-none machine = refl
 

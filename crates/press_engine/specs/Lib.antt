@@ -1,5 +1,6 @@
 -- The definitions of the engine: the command table of PCL 5 at work, step by step.
 pub mod Begun
+pub mod Changing
 pub mod Engine
 pub mod Faults
 pub mod Fold

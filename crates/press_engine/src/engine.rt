@@ -40,6 +40,7 @@ impl Engine {
     ghost use Rattle.press_engine.specs.Trace.{trace_at};
     ghost use Rattle.press_table.specs.Outputs.{all_outputs};
     ghost use Rattle.press_table.specs.Passing.{SkipsBytes, SkipsControls};
+    ghost use Rattle.press_engine.specs.Changing.{Changed};
     ghost use Rattle.press_engine.specs.Passing.{passed};
     ghost use Rattle.press_engine.specs.Engine.{machine_of, bodies, HasFailed, ending_of, Steps, Runs, TakesNext, NeedsMemory, InnerNeedsMemory, view_of};
 
@@ -134,6 +135,38 @@ impl Engine {
             return Err(EngineError::NoMemory);
         };
         Ok(step)
+    }
+
+    /// Takes a command of the stream, where no body runs, if it does no more than change the machine, and answers whether it does: that
+    /// is one step, in which nothing goes out and no body starts. Where it is another command, nothing changes.
+    ///
+    /// Source: PCL 5 Printer Language Technical Reference Manual, the commands by their sequences.
+    ///
+    /// # Errors
+    ///
+    /// As [`Engine::take_step`].
+    #[inline(always)]
+    pub fn change(&mut self, command: &Command<'_>) -> Result<bool, EngineError>
+        requires none { bodies self.old ≡ [] }
+        ensures changes { MatchResult result
+            (λ changes. Changed changes (token command.now) (machine_of self.old) (machine_of
+            self.new))
+            (λ _. HasFailed self.new) }
+        ensures bodies { bodies self.new ≡ [] }
+        ensures failed { IsErrOf result EngineError.Failed ↔ (machine_of self.old ≡ None) }
+        ensures refused { IfErr result
+            (λ error. (error ≡ EngineError.Failed) ⊎ (error ≡ EngineError.NoMemory)) }
+        ensures memory { IsErrOf result EngineError.NoMemory →
+            NeedsMemory (machine_of self.old) (token command.now) }
+    {
+        if self.failed {
+            return Err(EngineError::Failed);
+        }
+        let Ok(changes) = self.machine.change(self.alloc, command) else {
+            self.failed = true;
+            return Err(EngineError::NoMemory);
+        };
+        Ok(changes)
     }
 
     /// Whether text bytes of the stream, and bytes of another language, have no effect now.

@@ -53,7 +53,9 @@ impl Machine {
     ghost use Rattle.press_table.specs.Effects.{effect_of};
     ghost use Rattle.press_table.specs.Memory.{TakesMemory};
     ghost use Rattle.press_engine.specs.Machine.{power_on, with_state, taken, enter_body, leave_body};
+    ghost use Rattle.press_engine.specs.Changing.{ChangesOrStays};
     ghost use Rattle.press_table.specs.Table.{effect_on};
+    ghost use Rattle.press_table.specs.declared.effect.Source.TheVariants.{Stream};
 
     /// The machine after power on.
     pub fn power_on(alloc: Global) -> Self
@@ -103,6 +105,23 @@ impl Machine {
             Last::Ran(kind)
         };
         Ok(effect)
+    }
+
+    /// Takes a command where it does no more than change the state, and answers whether it does. Where it is another, nothing changes.
+    #[inline(always)]
+    pub fn change(&mut self, alloc: Global, command: &Command<'_>) -> Result<bool, AllocError>
+        ensures changes { IfOk result (λ changes.
+            ChangesOrStays changes (token command.now) self.old self.new) }
+        ensures memory { IsErr result
+            → TakesMemory (effect_on Stream (token command.now) self.old.state) }
+    {
+        let kind = kind(command);
+        if !self.state.change(alloc, command, kind)? {
+            return Ok(false);
+        }
+        self.step = self.step.saturating_add(1);
+        self.last = Last::Ran(kind);
+        Ok(true)
     }
 
     /// The body of a macro starts.

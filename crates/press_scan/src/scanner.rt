@@ -20,6 +20,7 @@ use crate::head::{head, scanned_in};
 use crate::line::plain_prefix;
 use crate::parser_state::ParserState;
 use crate::passing::{Passed, byte_kind, passed_prefix};
+use crate::plain::plain_at;
 use crate::reading::Found;
 use press_cmd::Command;
 use std::alloc::{AllocError, Global};
@@ -113,7 +114,7 @@ fn rest_length(mut mode: ParserState, bytes: &[u8], mut searched: usize) -> usiz
 }
 
 impl Scanner {
-    ghost use Rattle.press_scan.specs.Lending.{EndsAs};
+    ghost use Rattle.press_scan.specs.Lending.{EndsAs, EndsPlain};
 
     /// A scanner at the beginning of a stream, as after a universal exit. It takes no memory.
     pub fn new(alloc: Global) -> Scanner
@@ -241,6 +242,22 @@ impl Scanner {
                 Ok(None)
             }
         }
+    }
+
+    /// Gives the next command where it is a parameter with a group, or a control byte, that has come whole; else none, and nothing
+    /// changes. It may give none before such a command, too.
+    #[inline(always)]
+    pub fn next_plain(&mut self) -> Option<Command<'_>>
+        ensures some { IfSome result (λ command. IsNext self.old (token command)) }
+        ensures* after { sem 𝓛 (EndsPlain self.entry result) }
+    {
+        let held = &self.buffer[self.start..];
+        let found = plain_at(self.mode, held)?;
+        self.start += found.length;
+        self.mode = found.mode;
+        self.searched = 0;
+        self.awaited = 1;
+        Some(found.command)
     }
 
     /// Passes over the next commands at once, as long as each is a text byte or a byte of another language, or, with `controls`,

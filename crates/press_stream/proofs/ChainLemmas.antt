@@ -1,13 +1,13 @@
 -- The calls of a job, one after another.
 use Rattle.std.proofs.Common.{◌≡◌, ◌∙◌, ◌<◌, ◌+◌, ℕ, List, [], ◌∷◌, ◌++◌, length, take, drop, get_or, Ok, Err, Result, Option}
-use Rattle.std.proofs.Common.{Some, None, IsSome, IfErr, OnErr, OnOk, false, refl, sym, ap, subst, append_assoc}
+use Rattle.std.proofs.Common.{Some, None, IsSome, IfErr, OnErr, OnOk, false, refl, sym, ap, subst}
 use Rattle.std.specs.List.{flat_map}
 use Rattle.std.proofs.KnownBytes.{Consumes-nil}
 use Rattle.std.proofs.lemmas.Grind.{flat_map-append}
 use Rattle.std.proofs.lemmas.Bool.{true≢false}
 use Rattle.std.proofs.lemmas.List.{append-nil, take_more, take-append-drop}
 use Rattle.press_sink.specs.SinkLog.{SinkLog, logs, under, unlisted_log, written_log}
-use Rattle.press_sink.specs.Sending.{Output, Complete, AtSheet, AtReply, ForMemory, Took, HandsOut}
+use Rattle.press_sink.specs.Sending.{Output, Complete, AtSheet, AtReply, ForMemory, HandsOut}
 use Rattle.press_sink.proofs.SendingLemmas.{HandsOut-as, HandsOut-then, Took-none}
 use Rattle.press_engine.specs.declared.machine.Machine.{Machine}
 use Rattle.press_stream.specs.declared.fault.JobError.{JobError}

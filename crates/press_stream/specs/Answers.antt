@@ -164,6 +164,15 @@ pub record PassesOn (old new : JobState) : Type 0 where
   pub fewer : most_commands new ≤ most_commands old
   pub ended : new.held.ended ≡ old.held.ended
 
+-- The same, and then a step was taken.
+abbrev pub TakesOn : JobState → Result JobStep JobError → JobState → Type 0
+TakesOn old result new = (between : JobState) × PassesOn old between × TakesStep between result new
+
+-- The same, and what goes out in that step went out, as far as the answer says.
+abbrev pub StepsOn : JobState → Result Step JobError → JobState → List Output → Type 0
+StepsOn old result new went =
+    (between : JobState) × PassesOn old between × Takes between result new went × (IsErrOf result errors.NoMemory → WantsMemory between)
+
 -- A job that was handed these bytes carried commands out; or it stopped at a fault, whatever bytes may come.
 abbrev pub CarriesOrStops : JobState → List ℕ → Result (Unit {0}) JobError → JobState → List Output → Type 0
 CarriesOrStops old bytes (Ok _) new went = CarriesOn old bytes new went

@@ -8,12 +8,15 @@ use Rattle.press_scan.specs.ScannerState.{ScannerState}
 use Rattle.press_engine.specs.declared.step_output.StepOutput.{StepOutput}
 use Rattle.press_engine.specs.declared.activation.Activation.{Activation}
 use Rattle.press_engine.specs.declared.machine.Machine.{Machine}
+use Rattle.press_engine.specs.Changing.{Changed}
 use Rattle.press_engine.specs.Engine.{IsOfKind, NeedsMemory, Steps}
 use Rattle.press_engine.specs.Machine.{StepResult, macro_levels}
 use Rattle.press_table.specs.Outputs.{all_outputs}
 use Rattle.press_engine.specs.Stack.{continuation, HasNext}
 use Rattle.press_engine.specs.Fold.{run_all}
 use Rattle.press_engine.specs.Trace.{trace_at}
+use Rattle.press_stream.specs.declared.carrying.Plain.{Plain}
+use Rattle.press_stream.specs.declared.carrying.Plain.TheVariants as plain
 use Rattle.press_stream.specs.declared.fault.JobError.{JobError}
 use Rattle.press_stream.specs.declared.fault.JobError.TheVariants as errors
 use Rattle.press_stream.specs.State.{JobState}
@@ -67,6 +70,14 @@ abbrev pub CarriesNext : ScannerState → Option Machine → Result (Option Step
 CarriesNext held old (Ok (Some step)) next new still = (command : Token) × Passes held command next × CarriesOne command old (Ok step) new still
 CarriesNext held old (Ok None) next new still = IsDone held × (next ≡ held) × (new ≡ old) × (still ≡ [])
 CarriesNext held old (Err error) next new still = (command : Token) × Passes held command next × CarriesOne command old (Err error) new still
+
+-- The next command that a scanner holds was handed to an engine, and did no more than change the machine; or it did more, which is a step;
+-- or it was not taken, and nothing changed.
+abbrev pub CarriesPlain : ScannerState → Option Machine → Result Plain JobError → ScannerState → Option Machine → List Activation → Type 0
+CarriesPlain held old (Ok plain.Changed) next new still = (command : Token) × Passes held command next × Changed true command old new × (still ≡ [])
+CarriesPlain held old (Ok (plain.Ran step)) next new still = (command : Token) × Passes held command next × CarriesOne command old (Ok step) new still
+CarriesPlain held old (Ok plain.Other) next new still = (next ≡ held) × (new ≡ old) × (still ≡ [])
+CarriesPlain held old (Err error) next new still = (command : Token) × Passes held command next × CarriesOne command old (Err error) new still
 
 -- Commands that a scanner holds were handed to an engine one after another, and what they leave is left; nothing goes out.
 pub record CarriesIdle (held : ScannerState) (old : Option Machine) (next : ScannerState) (new : Option Machine) : Type 0 where

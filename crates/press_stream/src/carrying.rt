@@ -4,9 +4,9 @@ ghost use Rattle.std.specs.Prelude.{◌≡◌, [], IsSome, IsOk};
 ghost use Rattle.press_cmd.specs.View.{token};
 ghost use Rattle.press_scan.specs.ScannerState.{buffer_size};
 ghost use Rattle.press_engine.specs.Engine.{machine_of, bodies};
-ghost use Rattle.press_stream.specs.Answers.{TakesStep, PassesOn};
+ghost use Rattle.press_stream.specs.Answers.{TakesStep, PassesOn, TakesOn};
 ghost use Rattle.press_stream.specs.State.{job_state, Fits};
-ghost use Rattle.press_stream.specs.Steps.{CarriesOne, CarriesNext};
+ghost use Rattle.press_stream.specs.Steps.{CarriesOne, CarriesNext, CarriesPlain};
 ghost use Rattle.press_stream.specs.declared.phase.Phase.TheVariants.{Running};
 
 use crate::fault::JobError;
@@ -83,5 +83,58 @@ pub fn pass(scanner: &mut Scanner, engine: &mut Engine)
     }
     if let Some(passed) = scanner.pass(engine.skips_controls()) {
         engine.pass(passed.count, passed.kind);
+    }
+}
+
+/// What the next command of a stream did, where it is one of those that come most often.
+#[derive(Drop)]
+enum Plain {
+    /// It did no more than change the machine.
+    Changed,
+    /// It did more.
+    Ran(StepOutput),
+    /// It is another, and was not taken.
+    Other,
+}
+
+/// Hands the next command that a scanner holds to an engine that has not failed, where it is one of those that come most often.
+#[inline(always)]
+fn carry_plain(scanner: &mut Scanner, engine: &mut Engine) -> Result<Plain, JobError>
+    requires running { IsSome (machine_of engine.old) }
+    requires none { bodies engine.old ≡ [] }
+    ensures carries { CarriesPlain scanner.old (machine_of engine.old) result
+        scanner.new (machine_of engine.new) (bodies engine.new) }
+{
+    let Some(command) = scanner.next_plain() else {
+        return Ok(Plain::Other);
+    };
+    if engine.change(&command)? {
+        return Ok(Plain::Changed);
+    }
+    Ok(Plain::Ran(carry(engine, command)?))
+}
+
+/// Takes the next commands of the stream of a job that runs, as long as each does no more than change the machine, and then a step.
+#[inline(always)]
+pub fn take_on(
+    scanner: &mut Scanner,
+    engine: &mut Engine,
+    phase: &mut Phase,
+) -> Result<JobStep, JobError>
+    requires running { IsSome (machine_of engine.old) }
+    requires none { bodies engine.old ≡ [] }
+    requires phase { phase.old ≡ Running }
+    requires room { scanner.old.room ≡ buffer_size }
+    ensures takes { TakesOn (job_state scanner.old engine.old Running) result
+        (job_state scanner.new engine.new phase.new) }
+    ensures fits { IsOk result → Fits scanner.new engine.new phase.new }
+{
+    loop {
+        pass(scanner, engine);
+        match carry_plain(scanner, engine)? {
+            Plain::Changed => {}
+            Plain::Ran(step) => return Ok(JobStep::Ran(step)),
+            Plain::Other => return take(scanner, engine, phase),
+        }
     }
 }

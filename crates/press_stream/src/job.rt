@@ -1,6 +1,6 @@
 //! A stream that is carried out as its pieces come.
 
-use crate::carrying::{pass, take};
+use crate::carrying::{take, take_on};
 use crate::fault::JobError;
 use crate::phase::Phase;
 use crate::step::{JobStep, Step};
@@ -52,7 +52,7 @@ impl Job {
     ghost use Rattle.press_engine.specs.Stack.{IsReady};
     ghost use Rattle.press_stream.specs.Left.{LeftWith};
     ghost use Rattle.press_stream.specs.State.{opened, with_piece, input_ended, most_commands, NeedsInput, IsOver, IsAfterEnd};
-    ghost use Rattle.press_stream.specs.Answers.{fault_of, ending_by, Pushes, IsGoing, IsEarly, IsStill, StandsStill, TakesStep, Takes, WantsMemory, CarriesOrStops, PassesOn, IsIdle, ComesToWant, Feeds, Finishes, RunsReader, Answered};
+    ghost use Rattle.press_stream.specs.Answers.{fault_of, ending_by, Pushes, IsGoing, IsEarly, IsStill, StandsStill, TakesStep, Takes, WantsMemory, CarriesOrStops, TakesOn, StepsOn, IsIdle, ComesToWant, Feeds, Finishes, RunsReader, Answered};
     ghost use Rattle.press_devices.specs.Reading.{most_reads, no_reads, HasFault, ReadFails};
 
     /// A job at the beginning of a stream, with an engine after power on.
@@ -464,15 +464,47 @@ impl Job {
         Ok(())
     }
 
-    /// Takes the next commands of the stream at once, as long as each has one byte and no effect.
+    /// Takes the next commands of the stream at once, as long as each does no more than change the machine, and then a step.
     #[inline(always)]
-    fn pass(&mut self)
+    fn take_on(&mut self) -> Result<JobStep, JobError>
         requires running { IsSome self.old.machine }
         requires none { self.old.bodies ≡ [] }
-        ensures { PassesOn self.old self.new }
+        ensures takes { TakesOn self.old result self.new }
     {
-        if let Phase::Running = self.phase {
-            pass(&mut self.scanner, &mut self.engine);
+        match self.phase {
+            Phase::Running => {
+                let answer = take_on(&mut self.scanner, &mut self.engine, &mut self.phase);
+                if answer.is_err() {
+                    self.phase = Phase::Failed;
+                }
+                answer
+            }
+            _ => self.take_step(),
+        }
+    }
+
+    /// Takes the next commands of the stream as [`Job::take_on`] does, and hands what goes out in the last step to the sinks.
+    fn step_on<S: SheetSink, P: ReplySink>(
+        &mut self,
+        tag: u64,
+        sheets: &mut S,
+        replies: &mut P,
+    ) -> Result<Step, JobError>
+        requires running { IsSome self.old.machine }
+        requires none { self.old.bodies ≡ [] }
+        requires has_fault_room { HasFaultRoom (logs (S.told sheets.old) (P.told replies.old)) }
+        ensures { HandsOut (ending_by (fault_of result)) (StepsOn self.old result self.new)
+            (under tag (logs (S.told sheets.old) (P.told replies.old))
+            (logs (S.told sheets.new) (P.told replies.new))) }
+    {
+        match self.take_on()? {
+            JobStep::Ran(taken) => {
+                self.hand_over(&taken.sent, tag, sheets, replies)?;
+                self.reuse(taken.sent);
+                Ok(Step::Ran(taken.kind))
+            }
+            JobStep::Hungry => Ok(Step::Hungry),
+            JobStep::Ended => Ok(Step::Ended),
         }
     }
 
@@ -493,10 +525,8 @@ impl Job {
         ensures memory { IsErrOf result JobError.NoMemory → ComesToWant self.old }
     {
         self.run_out(tag, sheets, replies)?;
-        self.pass();
-        while let Step::Ran(_) = self.step(tag, sheets, replies)? {
+        while let Step::Ran(_) = self.step_on(tag, sheets, replies)? {
             self.run_out(tag, sheets, replies)?;
-            self.pass();
         }
         Ok(())
     }

@@ -1,5 +1,6 @@
 -- The definitions of the command table: the state, and what each command does to it.
 pub mod Calls
+pub mod Changing
 pub mod Closing
 pub mod Counts
 pub mod Drawing

@@ -3,6 +3,7 @@
 
 mod calls;
 mod canvas;
+mod changing;
 mod closing;
 mod drawing;
 mod effect;

@@ -17,7 +17,9 @@ impl Source {
 }
 
 impl State {
-    ghost use Rattle.std.specs.Prelude.{◌≡◌};
+    ghost use Rattle.std.specs.Prelude.{◌≡◌, false, IsTrue};
+    ghost use Rattle.press_table.specs.declared.effect.Source.{Source};
+    ghost use Rattle.press_table.specs.Outcome.{Changes};
     ghost use Rattle.press_units.specs.Value.{whole_part};
     ghost use Rattle.press_table.specs.Effects.{effect_of};
     ghost use Rattle.press_table.specs.Motion.{move_along, move_down, move_rows, to_left_margin, to_first_line, to_home, feed};
@@ -134,6 +136,38 @@ impl State {
         } else {
             Effect::Changes
         }
+    }
+
+    /// CR, where no line feed follows it, and answers whether none does. Where one does, nothing changes.
+    pub(crate) fn return_alone(&mut self) -> bool
+        ensures changed { IsTrue result → (source : Source)
+            → carriage_return source self.old ≡ Changes self.new }
+        ensures unchanged { result ≡ false → self.new ≡ self.old }
+    {
+        if self.environment.settings.line_termination.feed_after_return {
+            return false;
+        }
+        self.move_to_left_margin();
+        true
+    }
+
+    /// LF, where no carriage return comes before it and the page stays, and answers whether so. Where not, nothing changes.
+    pub(crate) fn feed_alone(&mut self) -> bool
+        ensures changed { IsTrue result → (source : Source)
+            → line_feed source self.old ≡ Changes self.new }
+        ensures unchanged { result ≡ false → self.new ≡ self.old }
+    {
+        let settings = self.environment.settings;
+        let distance = settings.vertical_motion;
+        if settings.line_termination.return_before_feed
+            || self.environment.passes_text(self.cursor.y(), distance)
+        {
+            return false;
+        }
+        let page = self.bounds();
+        self.cursor.move_down(distance, page);
+        self.graphics.end();
+        true
     }
 
     /// FF.

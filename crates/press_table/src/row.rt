@@ -4,7 +4,6 @@ use crate::effect::{Effect, Source};
 use crate::operation::{Operation, operation_of};
 use crate::state::State;
 use press_cmd::{Command, Kind};
-use press_units::Unit;
 use std::alloc::{AllocError, Global};
 
 impl Operation {
@@ -58,76 +57,28 @@ impl State {
         ensures memory { IsErr result
             → TakesMemory (table_row source operation (token command.now) self.old) }
     {
-        let value = command.value();
         match operation {
-            Operation::Nothing => {}
-            Operation::CarriageReturn => return Ok(self.carriage_return(source)),
-            Operation::LineFeed => return Ok(self.line_feed(source)),
-            Operation::FormFeed => return Ok(self.form_feed()),
-            Operation::HalfLineFeed => return Ok(self.half_line_feed(source)),
-            Operation::ClearMargins => self.environment.clear_margins(),
-            Operation::Reset => return Ok(self.reset()),
-            Operation::EnterHpGl => self.hp_gl = true,
-            Operation::LeaveHpGl => self.hp_gl = false,
-            Operation::UnitOfMeasure => self.environment.set_unit_of_measure(value),
-            Operation::MoveColumns => self.move_along(self.column(), value),
-            Operation::MoveRows => self.move_rows(value),
-            Operation::MoveHorizontally => self.move_along(Unit::decipoint(), value),
-            Operation::MoveVertically => self.move_down(Unit::decipoint(), value),
-            Operation::SelectPageSide => return Ok(self.select_page_side(value)),
-            Operation::LeftMargin => self.change_left_margin(value),
-            Operation::RightMargin => self.change_right_margin(value),
-            Operation::PushOrPop => self.push_or_pop(value),
-            Operation::LineTermination => self.environment.set_line_termination(value),
-            Operation::HorizontalMotion => self.environment.set_horizontal_motion(value),
-            Operation::SelectPageSize => return Ok(self.select_page_size(value)),
-            Operation::VerticalMotion => self.environment.set_vertical_motion(value),
-            Operation::LineSpacing => self.environment.set_line_spacing(value),
-            Operation::TopMargin => self.change_top_margin(value),
-            Operation::TextLength => self.environment.set_text_length(value),
-            Operation::EjectPage => return Ok(self.eject_page()),
-            Operation::PerforationSkip => self.change_perforation_skip(value),
-            Operation::SelectOrientation => return Ok(self.select_orientation(value)),
-            Operation::SelectDuplex => return Ok(self.select_duplex(value)),
-            Operation::Copies => self.environment.set_copies(value),
-            Operation::RectangleWidth => {
-                let unit = self.pcl_unit();
-                self.drawing.set_rectangle_width(value, unit);
-            }
-            Operation::RectangleHeight => {
-                let unit = self.pcl_unit();
-                self.drawing.set_rectangle_height(value, unit);
-            }
-            Operation::PatternId => self.drawing.set_pattern_id(value),
-            Operation::RectangleWidthInDecipoints => {
-                self.drawing.set_rectangle_width(value, Unit::decipoint());
-            }
-            Operation::Fill => return self.fill(alloc, value),
-            Operation::ControlPatterns => self.control_patterns(value),
-            Operation::RectangleHeightInDecipoints => {
-                self.drawing.set_rectangle_height(value, Unit::decipoint());
-            }
-            Operation::DefinePattern => return self.define_pattern(command.data()),
-            Operation::SourceTransparency => self.drawing.set_source_transparency(value),
-            Operation::PatternTransparency => self.drawing.set_pattern_transparency(value),
-            Operation::SelectPattern => self.select_pattern(value),
-            Operation::RasterResolution => self.set_raster_resolution(value),
-            Operation::StartRaster => self.start_raster(value.whole()),
-            Operation::EndRaster => self.graphics.end(),
-            Operation::EndRasterAndMethod => self.end_raster_and_method(),
-            Operation::SourceWidth => self.set_source_width(value),
-            Operation::SourceHeight => self.set_source_height(value),
-            Operation::SetMethod => self.drawing.raster.set_method(value),
+            Operation::CarriageReturn => Ok(self.carriage_return(source)),
+            Operation::LineFeed => Ok(self.line_feed(source)),
+            Operation::FormFeed => Ok(self.form_feed()),
+            Operation::HalfLineFeed => Ok(self.half_line_feed(source)),
+            Operation::Reset => Ok(self.reset()),
+            Operation::SelectPageSide => Ok(self.select_page_side(command.value())),
+            Operation::SelectPageSize => Ok(self.select_page_size(command.value())),
+            Operation::EjectPage => Ok(self.eject_page()),
+            Operation::SelectOrientation => Ok(self.select_orientation(command.value())),
+            Operation::SelectDuplex => Ok(self.select_duplex(command.value())),
+            Operation::Fill => self.fill(alloc, command.value()),
+            Operation::DefinePattern => self.define_pattern(command.data()),
             // taken before this match by `row`
-            Operation::TransferRow => return self.transfer(alloc, command.data()),
-            Operation::OffsetRaster => self.offset_raster(value),
-            Operation::MoveX => self.move_along(self.pcl_unit(), value),
-            Operation::MoveY => self.move_down(self.pcl_unit(), value),
-            Operation::MacroId => self.set_macro_id(value),
-            Operation::ControlMacro => return self.control_macro(source, value),
-            Operation::JobLanguage => return self.job_language(alloc, command.line()),
+            Operation::TransferRow => self.transfer(alloc, command.data()),
+            Operation::ControlMacro => self.control_macro(source, command.value()),
+            Operation::JobLanguage => self.job_language(alloc, command.line()),
+            plain => {
+                self.set_by(plain, command);
+                Ok(Effect::Changes)
+            }
         }
-        Ok(Effect::Changes)
     }
 
     /// Whether a command has no effect where it stands: HP-GL/2 is skipped, and no page closes in an overlay.

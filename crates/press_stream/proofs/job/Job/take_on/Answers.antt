@@ -1,0 +1,6 @@
+use Rattle.press_stream.proofs.Passing.{PassesOn-none}
+use Rattle.press_stream.proofs.job.Job.take_on.Goals as goal
+
+pub returns-in_default : goal.returns-in_default
+returns-in_default c =
+    record { takes = (c.args.self.now, PassesOn-none c.args.self.now c.requires.running c.requires.none, c.take_step.ensures.takes) }
