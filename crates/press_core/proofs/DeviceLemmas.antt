@@ -2,7 +2,7 @@
 use Rattle.std.proofs.Common.{◌≡◌, ◌<◌, ◌+◌, ◌++◌, ◌∙◌, ℕ, add-one, List, [], ◌∷◌, drop, length, map, sym, ap, append_assoc}
 use Rattle.serde_json.specs.Data.{Data}
 use Rattle.press_core.specs.Listings.{listed_device}
-use Rattle.press_core.specs.World.{World, device, device_running, devices}
+use Rattle.press_core.specs.World.{World, device, device_running}
 use Rattle.press_core.proofs.PressLemmas.{drop-slot}
 
 -- of the engines from one on

@@ -1,6 +1,7 @@
 -- The lemmas on the press: its queue, its works and engines.
 pub mod AbortLemmas
 pub mod AnswerLemmas
+pub mod CommandLemmas
 pub mod DeviceLemmas
 pub mod EngineLemmas
 pub mod EntryLemmas

@@ -1,31 +1,38 @@
 -- What each row of the queue, and what follows it, leaves of a press: entries and works go together, and those that run are on engines.
 use Rattle.std.proofs.Common.{◌≡◌, ◌<◌, ◌≤◌, ◌+◌, ◌∙◌, ℕ, zero, suc, add-one, true, false, nat_eq, length, drop, replicate}
-use Rattle.std.proofs.Common.{slice_set, arith, List, [], ◌∷◌, Option, Some, None, Result, IfSome, IsTrue, refl, sym, ap, subst}
-use Rattle.std.specs.Map.{set_value}
+use Rattle.std.proofs.Common.{slice_set, arith, List, [], ◌∷◌, Option, Some, None, Ok, Err, IfSome, IsTrue, refl, sym, ap, subst}
+use Rattle.std.specs.List.{IsDistinct}
+use Rattle.std.specs.Map.{keys_of, set_value}
+use Rattle.press_queue.specs.declared.command.EntryCommand.{EntryCommand}
 use Rattle.press_queue.specs.declared.refusal.Refusal.{Refusal}
 use Rattle.press_queue.specs.declared.status.End.{End}
 use Rattle.press_queue.specs.Rows as rows
 use Rattle.press_queue.specs.State.{QueueState, empty_queue}
+use Rattle.press_queue.proofs.CommandLemmas.{Commanded, commanded_is}
 use Rattle.press_core.specs.Engines.{RunsOnEngines, are_engines, left_by}
 use Rattle.press_core.specs.Inside.{IsPress, aborted_on, begun_works}
 use Rattle.press_core.specs.Work.{Work}
-use Rattle.press_core.specs.World.{World, on_engine, works_without_job}
+use Rattle.press_core.specs.World.{World, consequence, engines_after, on_engine, works_after, works_without_job}
 use Rattle.press_core.proofs.AbortLemmas.{all_aborted}
-use Rattle.press_core.proofs.EngineLemmas.{RunsAsBefore, length-left_by, on_engines-kept, on_engines-left, on_engines-new, on_engines-taken, runs-on_engine, slot}
+use Rattle.press_core.proofs.CommandLemmas.{IsSound-commanded, became, engines-commanded}
+use Rattle.press_core.proofs.EngineLemmas.{length-left_by, on_engines-left, on_engines-new, on_engines-taken, runs-on_engine, slot}
 use Rattle.press_core.proofs.RunsLemmas.{begun-but, finish-but}
-use Rattle.press_core.proofs.SoundLemmas.{IsSound-ended, IsSound-finished, Keeps}
+use Rattle.press_core.proofs.SoundLemmas.{IsSound-ended, IsSound-finished}
 use Rattle.press_core.proofs.TurnLemmas.{IsSound-begun, IsSound-given_up, Waited, begun_still}
 
--- by what a row answers, where the works and the engines stay
-pub IsPress-row : {A : Type 0} (old new : QueueState) (works : List (ℕ × Work)) (engines : List (Option ℕ)) (result : Result A Refusal) (row : rows.QueueAnswer A) → (new, result) ≡ row
-    → Keeps old row.0 → RunsAsBefore old row.0 → IsPress old works engines → IsPress new works engines
-IsPress-row old new works engines result row is keeps runs press =
-    subst (λ q. IsPress q works engines) (sym (ap (λ r. r.0) is))
-    (record { sound = keeps works press.sound; on_engines = on_engines-kept old row.0 engines runs press.on_engines })
+-- a command to an entry that the queue carried out, and what follows of it
+pub IsPress-commanded : (command : EntryCommand) (number : ℕ) (queue new : QueueState) (works : List (ℕ × Work)) (engines : List (Option ℕ)) → IsDistinct nat_eq (keys_of queue.entries)
+    → (new, Ok tt) ≡ rows.commanded command number queue → IsPress queue works engines
+    → IsPress new (works_after (consequence command) number new works) (engines_after (consequence command) number engines)
+IsPress-commanded command number queue new works engines distinct is press =
+    let it = became command number queue new distinct (subst (Commanded command number queue) (sym is) (commanded_is command number queue)) in
+    record { sound = IsSound-commanded command number queue new works it press.sound; on_engines = engines-commanded command number queue new engines it press.on_engines }
 
--- a refusal changes nothing
-pub IsPress-same : (old new : QueueState) (works : List (ℕ × Work)) (engines : List (Option ℕ)) → new ≡ old → IsPress old works engines → IsPress new works engines
-IsPress-same old new works engines same press = subst (λ q. IsPress q works engines) (sym same) press
+-- one that was refused changes nothing
+pub IsPress-refused : (command : EntryCommand) (number : ℕ) (queue new : QueueState) (works : List (ℕ × Work)) (engines : List (Option ℕ)) (refusal : Refusal)
+    → (new, Err refusal) ≡ rows.commanded command number queue → IsPress queue works engines → IsPress new works engines
+IsPress-refused command number queue new works engines refusal is press =
+    subst (λ q. IsPress q works engines) (sym (subst (Commanded command number queue) (sym is) (commanded_is command number queue))) press
 
 -- an entry that ran ends, and leaves its engine
 pub IsPress-ended : (number : ℕ) (end : End) (queue : QueueState) (works : List (ℕ × Work)) (engines : List (Option ℕ)) (work : Work) → IsTrue (rows.entry_runs number queue) → work.progress ≡ None

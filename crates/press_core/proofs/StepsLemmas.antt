@@ -1,5 +1,5 @@
 -- Steps of a work's job, one after another.
-use Rattle.std.proofs.Common.{◌≡◌, ◌∙◌, ◌+◌, ◌-◌, ◌<◌, ◌≤◌, ◌++◌, ℕ, List, [], ◌∷◌, ◌⊎◌, inl, inr, length, take, drop, Option, Some, None}
+use Rattle.std.proofs.Common.{◌≡◌, ◌∙◌, ◌+◌, ◌-◌, ◌<◌, ◌≤◌, ◌++◌, ℕ, List, [], ◌⊎◌, inl, inr, length, take, drop, Option, Some, None}
 use Rattle.std.proofs.Common.{IsSome, Result, Ok, Err, refl, sym, ap, subst, arith, rules, nat_eq, is_some, Bool, false, true≢false}
 use Rattle.std.proofs.Math.Seq.{take-add}
 use Rattle.std.proofs.lemmas.List.{append_assoc, append-nil, drop-drop, map-append}

@@ -12,13 +12,12 @@ use Rattle.press_page.specs.Environment.{changed_by}
 use Rattle.press_queue.specs.declared.entry.Entry.{Entry}
 use Rattle.press_queue.specs.declared.status.End.{End}
 use Rattle.press_queue.specs.declared.status.End.TheVariants.{Completed, Aborted}
-use Rattle.press_queue.specs.declared.status.Status.{Status}
-use Rattle.press_queue.specs.declared.status.Status.TheVariants as statuses
 use Rattle.press_queue.specs.Entries.{entry_numbered, with_entry}
 use Rattle.press_queue.specs.Rows as rows
 use Rattle.press_queue.specs.State.{QueueState}
 use Rattle.press_queue.specs.Status.{has_ended, is_running, is_waiting, status_at_end}
 use Rattle.press_queue.proofs.FirstLemmas.{next_is_numbered}
+use Rattle.press_queue.proofs.StatusLemmas.{excluded}
 use Rattle.press_sink.specs.declared.sheet.Delivery.{Delivery}
 use Rattle.press_sink.specs.Sending.{under_tag}
 use Rattle.press_sink.specs.PrintedSheet.{PrintedSheet}
@@ -31,12 +30,12 @@ use Rattle.press_core.specs.Engines.{are_engines, left_by}
 use Rattle.press_core.specs.Handing.{IsAfterSteps, TakesSteps, handing}
 use Rattle.press_core.specs.Inside.{AreTogether, Begins, HasProgress, IsSound, begun_work, begun_works, with_begun}
 use Rattle.press_core.specs.Turns.{EntrySteps, FaultsAfter, IsJobOf, NamesEntry, StepsTo, TakesTurn, TakesTurnOn}
-use Rattle.press_core.specs.Turns.{TurnAt, WereHandedOut, aborted, after_steps, completed, is_idle, is_fault, no_turn}
+use Rattle.press_core.specs.Turns.{TurnAt, WereHandedOut, aborted, after_steps, completed, is_idle, is_fault}
 use Rattle.press_core.specs.Turns.{progress_in_job, sheets_from, steps_from, steps_of, at_turn, at_turn_with, with_turn}
 use Rattle.press_core.specs.Work.{Work, at_progress, with_delivered, without_job}
 use Rattle.press_core.specs.World.{World, has_engine, off_engine, on_engine, works_without_job, with_queue, with_work, work_numbered}
 use Rattle.press_core.proofs.EngineLemmas.{set-same}
-use Rattle.press_core.proofs.EntryLemmas.{set_twice, there_set}
+use Rattle.press_core.proofs.EntryLemmas.{set_lookup, set_twice, there_set}
 use Rattle.press_core.proofs.JobLemmas.{IsJobOf-some}
 use Rattle.press_core.proofs.SoundLemmas.{over_at_end, runs_as, some_not, still_at_end}
 use Rattle.press_core.proofs.WorkLemmas.{ended_entry, has_work, running_progress, set_both, set_work}
@@ -94,17 +93,9 @@ begun_is queue new number distinct is = at_held queue.held is
     at_held false e = at_next (rows.next_to_run queue.entries) refl e
 
 -- so it did not run
-waits_still : (status : Status) → is_waiting status ≡ true → is_running status ≡ false
-waits_still statuses.Waiting is = refl
-waits_still statuses.Running is = absurd (true≢false (sym is))
-waits_still statuses.Held is = refl
-waits_still statuses.Suspended is = refl
-waits_still statuses.Completed is = refl
-waits_still statuses.Aborted is = refl
-
 pub begun_still : (queue new : QueueState) (number : ℕ) → Waited queue new number → rows.entry_runs number queue ≡ false
 begun_still queue new number waited =
-    ap (λ o. option_map_or (λ entry. is_running entry.status) o false) waited.begins.there ∙ waits_still waited.begins.entry.status waited.waited
+    ap (λ o. option_map_or (λ entry. is_running entry.status) o false) waited.begins.there ∙ excluded is_waiting is_running refl waited.begins.entry.status waited.waited
 
 -- it runs then
 pub begun_runs : (queue new : QueueState) (number : ℕ) → IsBegun queue new number → IsTrue (rows.entry_runs number new)
@@ -113,16 +104,8 @@ begun_runs queue new number begins =
     ∙ ap (λ o. option_map_or (λ entry. is_running entry.status) o false) (there_set number queue.entries begins.entry (rows.begun_entry begins.entry) begins.there)
 
 -- and has not ended, so its images are kept
-waits_open : (status : Status) → is_waiting status ≡ true → has_ended status ≡ false
-waits_open statuses.Waiting is = refl
-waits_open statuses.Running is = refl
-waits_open statuses.Held is = refl
-waits_open statuses.Suspended is = refl
-waits_open statuses.Completed is = absurd (true≢false (sym is))
-waits_open statuses.Aborted is = absurd (true≢false (sym is))
-
 waited_kept : (queue new : QueueState) (number : ℕ) → (waited : Waited queue new number) → (work : Work) → AreTogether waited.begins.entry work → work.kept ≡ true
-waited_kept queue new number waited work together = together.kept ∙ ap not (waits_open waited.begins.entry.status waited.waited)
+waited_kept queue new number waited work together = together.kept ∙ ap not (excluded is_waiting has_ended refl waited.begins.entry.status waited.waited)
 
 pub begun_kept : (queue new : QueueState) (works : List (ℕ × Work)) (number : ℕ) → Waited queue new number → IsSound queue works
     → IfSome (lookup (nat_eq number) works) (λ work. work.kept ≡ true)
@@ -210,7 +193,8 @@ pub IsSound-given_up : (queue new : QueueState) (works : List (ℕ × Work)) (nu
 IsSound-given_up queue new works number end begins sound =
     let ended = record begins.entry { status = status_at_end end; begun = true } in
     subst (λ q. IsSound q (works_without_job number works)) (sym (ended_is queue new number end begins))
-    (ended_entry number begins.entry ended queue works begins.there (over_at_end end) (still_at_end end) sound)
+    (ended_entry number begins.entry ended queue (rows.with_entries (with_entry number ended queue.entries) queue) works begins.there
+    (over_at_end end) (still_at_end end) (λ n. set_lookup n number queue.entries ended (ap is_some begins.there)) sound)
 
 pub begins_given_up : (world : World) (engine number : ℕ) (new after : QueueState) (works : List (ℕ × Work)) (engines : List (Option ℕ)) (error : AllocError) → on_engine engine world ≡ None
     → IsDistinct nat_eq (keys_of world.queue.entries) → IsSound world.queue world.works → (new, Some number) ≡ rows.begin world.queue

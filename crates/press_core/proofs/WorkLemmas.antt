@@ -3,12 +3,11 @@ use Rattle.std.proofs.Common.{◌≡◌, ℕ, ◌&&◌, not, Bool, true, false, 
 use Rattle.std.specs.Map.{lookup, set_value}
 use Rattle.press_page.specs.Environment.{changed_by}
 use Rattle.press_queue.specs.declared.entry.Entry.{Entry}
-use Rattle.press_queue.specs.declared.status.Status.{Status}
-use Rattle.press_queue.specs.declared.status.Status.TheVariants as statuses
 use Rattle.press_queue.specs.Entries.{entry_numbered, with_entry}
 use Rattle.press_queue.specs.Rows as rows
 use Rattle.press_queue.specs.State.{QueueState}
 use Rattle.press_queue.specs.Status.{has_ended, is_in_flight, is_running}
+use Rattle.press_queue.proofs.StatusLemmas.{excluded}
 use Rattle.press_core.specs.Inside.{AreTogether, GoTogether, IsSound}
 use Rattle.press_core.specs.Work.{Work, without_job}
 use Rattle.press_core.specs.World.{works_without_job}
@@ -45,18 +44,9 @@ has_work queue works number entry there sound =
     by None is none = absurd none
     by (Some work) is together = record { work = work; is = is; together = together }
 
--- what runs has not ended
-running_open : (status : Status) → is_running status ≡ true → has_ended status ≡ false
-running_open statuses.Waiting runs = refl
-running_open statuses.Held runs = refl
-running_open statuses.Running runs = refl
-running_open statuses.Suspended runs = refl
-running_open statuses.Completed runs = absurd (true≢false (sym runs))
-running_open statuses.Aborted runs = absurd (true≢false (sym runs))
-
 pub running_progress : (entry : Entry) (work : Work) → is_running entry.status ≡ true → AreTogether entry work → IsSome work.progress
 running_progress entry work runs together =
-    together.in_flight ∙ (λ j. together.begun runs j && not (running_open entry.status runs j))
+    together.in_flight ∙ (λ j. together.begun runs j && not (excluded is_running has_ended refl entry.status runs j))
 
 -- ---- a work that changes, an entry that does, and both
 
@@ -111,9 +101,11 @@ pub without_job_is : (number : ℕ) (works : List (ℕ × Work)) (work : Work) �
 without_job_is number works work is = ap (λ o. changed_by o (λ w all. set_value (nat_eq number) all (without_job w)) works) is
 
 -- an entry that is listed ends, and its work is without its job
-pub ended_entry : (number : ℕ) (old new : Entry) (queue : QueueState) (works : List (ℕ × Work)) → entry_numbered number queue.entries ≡ Some old → has_ended new.status ≡ true
-    → is_running new.status ≡ false → IsSound queue works → IsSound (rows.with_entries (with_entry number new queue.entries) queue) (works_without_job number works)
-ended_entry number old new queue works there ended still sound =
+pub ended_entry : (number : ℕ) (old new : Entry) (queue after : QueueState) (works : List (ℕ × Work)) → entry_numbered number queue.entries ≡ Some old → has_ended new.status ≡ true
+    → is_running new.status ≡ false → ((n : ℕ) → entry_numbered n after.entries ≡ cond (nat_eq number n) (Some new) (entry_numbered n queue.entries))
+    → IsSound queue works → IsSound after (works_without_job number works)
+ended_entry number old new queue after works there ended still are sound =
     let has = has_work queue works number old there sound in
     rw (without_job_is number works has.work has.is)
-    (set_both number queue works old new has.work (without_job has.work) there has.is (ended_together new (without_job has.work) ended still refl refl) sound)
+    (IsSound-at number queue after works (set_value (nat_eq number) works (without_job has.work)) (Some new) (Some (without_job has.work)) are
+    (λ n. set_lookup n number works (without_job has.work) (ap is_some has.is)) (ended_together new (without_job has.work) ended still refl refl) sound)

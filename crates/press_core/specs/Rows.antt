@@ -4,6 +4,8 @@ use Rattle.std.specs.Prelude.{ℕ, ℤ, pos, List, [], ◌++◌, length, nat_lt,
 use Rattle.std.specs.Result.{result_map_both, result_ok}
 use Rattle.serde_json.specs.Data.{Data, string}
 use Rattle.press_bits.specs.Page.{Page}
+use Rattle.press_queue.specs.declared.command.EntryCommand.{EntryCommand}
+use Rattle.press_queue.specs.declared.command.EntryCommand.TheVariants as commands
 use Rattle.press_queue.specs.declared.refusal.Refusal.{Refusal}
 use Rattle.press_queue.specs.declared.refusal.Refusal.TheVariants.{Unknown}
 use Rattle.press_queue.specs.Refusal.{return_code_of}
@@ -27,7 +29,7 @@ use Rattle.press_core.specs.Messages.{Heading, Headed, heading_of, message_in, n
 use Rattle.press_core.specs.Parameters.{Found, and_then, optional_parameter, both_found, text_parameter, whole_parameter, object_parameter}
 use Rattle.press_core.specs.Response.{Additions, adding, accepted_text, refused_text, no_heading}
 use Rattle.press_core.specs.Work.{new_work}
-use Rattle.press_core.specs.World.{World, with_queue, with_new_work, without_gone, off_engine, given_up, device, devices}
+use Rattle.press_core.specs.World.{World, followed, with_queue, with_new_work, without_gone, device, devices}
 
 -- What a message is answered: what the response adds, and the world after it; or why nothing was done.
 abbrev pub MessageAnswer : Type 0
@@ -69,17 +71,24 @@ named_entry_with key message queue =
     and_then (λ both. and_then (λ number. Ok (number, both.1)) (entry_number_of both.0 queue))
     (or_refused (both_found (id_parameter message) (whole_parameter key message)))
 
--- a command to one entry: the queue's row, and what follows for the world
-abbrev pub entry_row : Data → World → (ℕ → QueueState → rows.QueueAnswer (Unit {0})) → (ℕ → World → MessageAnswer) → MessageAnswer
-entry_row message world row next =
-    and_then (λ number. and_then (λ done. next number done.1) (after_queue world (row number world.queue)))
-    (named_entry message world.queue)
+-- what the response to a command to one entry adds
+abbrev pub added_by : EntryCommand → Additions
+added_by commands.Remove = adding (codes "Status") (string (codes "Removed"))
+added_by other = []
 
--- the same with a number beside the entry
-abbrev pub entry_number_row : List ℕ → Data → World → (ℕ → ℤ → QueueState → rows.QueueAnswer (Unit {0})) → MessageAnswer
-entry_number_row key message world row =
-    and_then (λ both. and_then (λ done. accepting done.1) (after_queue world (row both.0 both.1 world.queue)))
-    (named_entry_with key message world.queue)
+-- A command to one entry: the queue's row, and what follows of it.
+abbrev pub entry_row : EntryCommand → (number : ℕ) → World → MessageAnswer
+entry_row command number world =
+    and_then (λ done. telling (added_by command) (followed command number done.1))
+    (after_queue world (rows.commanded command number world.queue))
+
+-- the entry is named by the message; so it is, and a number beside it
+abbrev pub named_row : EntryCommand → Data → World → MessageAnswer
+named_row command message world = and_then (λ number. entry_row command number world) (named_entry message world.queue)
+
+abbrev pub numbered_row : List ℕ → (ℤ → EntryCommand) → Data → World → MessageAnswer
+numbered_row key command message world =
+    and_then (λ both. entry_row (command both.1) both.0 world) (named_entry_with key message world.queue)
 
 -- A ticket that can be printed with these images.
 abbrev pub fitting : JobTicket → Option WriterError → Result JobTicket Refused
@@ -133,15 +142,15 @@ devices_added world =
 -- The row of each type of message.
 abbrev pub response_row : MessageType → Data → List Page → World → MessageAnswer
 response_row types.SubmitQueueEntry message images world = submit_row message images world
-response_row types.HoldQueueEntry message images world = entry_row message world rows.hold (λ number after. accepting after)
-response_row types.SuspendQueueEntry message images world = entry_row message world rows.suspend (λ number after. accepting (off_engine number after))
-response_row types.ResumeQueueEntry message images world = entry_row message world rows.resume (λ number after. accepting after)
-response_row types.AbortQueueEntry message images world = entry_row message world rows.abort (λ number after. accepting (given_up number after))
-response_row types.RemoveQueueEntry message images world =
-    entry_row message world rows.remove (λ number after.
-    telling (adding (codes "Status") (string (codes "Removed"))) (without_gone after))
-response_row types.SetQueueEntryPriority message images world = entry_number_row (codes "Priority") message world rows.set_priority
-response_row types.SetQueueEntryPosition message images world = entry_number_row (codes "Position") message world rows.set_position
+response_row types.HoldQueueEntry message images world = named_row commands.Hold message world
+response_row types.SuspendQueueEntry message images world = named_row commands.Suspend message world
+response_row types.ResumeQueueEntry message images world = named_row commands.Resume message world
+response_row types.AbortQueueEntry message images world = named_row commands.Abort message world
+response_row types.RemoveQueueEntry message images world = named_row commands.Remove message world
+response_row types.SetQueueEntryPriority message images world =
+    numbered_row (codes "Priority") (λ priority. commands.SetPriority priority) message world
+response_row types.SetQueueEntryPosition message images world =
+    numbered_row (codes "Position") (λ position. commands.SetPosition position) message world
 response_row types.HoldQueue message images world = accepting (with_queue (flagged flags.Hold world.queue) world)
 response_row types.ResumeQueue message images world = accepting (with_queue (flagged flags.Resume world.queue) world)
 response_row types.OpenQueue message images world = accepting (with_queue (flagged flags.Open world.queue) world)

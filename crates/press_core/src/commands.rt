@@ -10,9 +10,9 @@ use crate::press::Press;
 use crate::response::{Additions, accepted, adding, text};
 use crate::submission::submission;
 use crate::work::Work;
-use crate::works::{drop_job, enter, forget_gone};
+use crate::works::{enter, follow, forget_gone};
 use press_bits::Bitmap;
-use press_queue::Refusal;
+use press_queue::{EntryCommand, Refusal};
 use serde_json::Value;
 use std::alloc::AllocError;
 
@@ -22,12 +22,13 @@ impl Press {
     ghost use Rattle.std.specs.Map.{keys_of};
     ghost use Rattle.serde_json.specs.Data.{string};
     ghost use Rattle.serde_json.specs.View.{view, items_view, items_of};
+    ghost use Rattle.press_queue.specs.declared.command.EntryCommand.TheVariants as commands;
     ghost use Rattle.press_queue.specs.Rows as rows;
     ghost use Rattle.press_core.specs.declared.fault.Stop.TheVariants.{NoMemory};
     ghost use Rattle.press_core.specs.Listings.{entry_id, listed_queue, listed_device};
     ghost use Rattle.press_core.specs.Response.{adding, accepted_text};
     ghost use Rattle.press_core.specs.Rows as table;
-    ghost use Rattle.press_core.specs.Shown.{shown_heading, additions_of};
+    ghost use Rattle.press_core.specs.Shown.{HaveNoFloat, shown_heading, additions_of};
     ghost use Rattle.press_core.specs.declared.message_type.MessageType.TheVariants.{SubmitQueueEntry};
     ghost use Rattle.press_core.specs.Stops.{AnswersMessage, Accepts};
     ghost use Rattle.press_core.specs.World as world;
@@ -48,11 +49,11 @@ impl Press {
     {
         match message_type {
             MessageType::SubmitQueueEntry => self.submit(heading, message, images),
-            MessageType::HoldQueueEntry => self.hold(heading, message),
-            MessageType::SuspendQueueEntry => self.suspend(heading, message),
-            MessageType::ResumeQueueEntry => self.resume(heading, message),
-            MessageType::AbortQueueEntry => self.abort(heading, message),
-            MessageType::RemoveQueueEntry => self.remove(heading, message),
+            MessageType::HoldQueueEntry => self.command(heading, message, EntryCommand::Hold),
+            MessageType::SuspendQueueEntry => self.command(heading, message, EntryCommand::Suspend),
+            MessageType::ResumeQueueEntry => self.command(heading, message, EntryCommand::Resume),
+            MessageType::AbortQueueEntry => self.command(heading, message, EntryCommand::Abort),
+            MessageType::RemoveQueueEntry => self.command(heading, message, EntryCommand::Remove),
             MessageType::SetQueueEntryPriority => self.set_priority(heading, message),
             MessageType::SetQueueEntryPosition => self.set_position(heading, message),
             MessageType::QueueStatus => self.tell_queue(heading),
@@ -131,95 +132,70 @@ impl Press {
         accepted(self.alloc, heading, adding(self.alloc, "QueueEntryID", id)?)
     }
 
-    /// Holds an entry that waits.
-    fn hold(&mut self, heading: Heading<'_>, message: &Value) -> Result<Vec<u8>, Stop>
-        ensures { AnswersMessage (table.entry_row (view message.now) self.old rows.hold
-            (λ number after. table.accepting after))
+    /// What the response to a command to an entry adds.
+    fn added_by(&self, command: EntryCommand) -> Result<Additions, AllocError>
+        ensures added { IfOk result (λ additions.
+            additions_of additions.items ≡ table.added_by command) }
+        ensures no_float { IfOk result (λ additions. HaveNoFloat (additions_of additions.items)) }
+    {
+        match command {
+            EntryCommand::Remove => {
+                let removed = text(self.alloc, "Removed")?;
+                adding(self.alloc, "Status", removed)
+            }
+            _ => Ok(Vec::new(self.alloc)),
+        }
+    }
+
+    /// Carries out a command to the entry of this number, and what follows of it.
+    fn command_entry(
+        &mut self,
+        heading: Heading<'_>,
+        number: u64,
+        command: EntryCommand,
+    ) -> Result<Vec<u8>, Stop>
+        ensures { AnswersMessage (table.entry_row command number self.old)
             self.old (shown_heading heading.entry) result self.new }
     {
-        let number = self.named_entry(message)?;
-        let response = accepted(self.alloc, heading, Vec::new(self.alloc))?;
-        self.queue.hold(number)?;
+        let response = accepted(self.alloc, heading, self.added_by(command)?)?;
+        self.queue.command(number, command)?;
+        let engines = &mut self.engines;
+        follow(command, number, &self.queue, &mut self.works, engines);
         Ok(response)
     }
 
-    /// Suspends an entry that runs, unless the most entries are in flight. Its job stays where it is, and it leaves its engine.
-    fn suspend(&mut self, heading: Heading<'_>, message: &Value) -> Result<Vec<u8>, Stop>
-        ensures { AnswersMessage (table.entry_row (view message.now) self.old rows.suspend
-            (λ number after. table.accepting (world.off_engine number after)))
+    /// Carries out a command to the entry that a message names.
+    fn command(
+        &mut self,
+        heading: Heading<'_>,
+        message: &Value,
+        command: EntryCommand,
+    ) -> Result<Vec<u8>, Stop>
+        ensures { AnswersMessage (table.named_row command (view message.now) self.old)
             self.old (shown_heading heading.entry) result self.new }
     {
         let number = self.named_entry(message)?;
-        let response = accepted(self.alloc, heading, Vec::new(self.alloc))?;
-        self.queue.suspend(number)?;
-        self.engines.leave(number);
-        Ok(response)
-    }
-
-    /// Lets an entry that is held or suspended wait.
-    fn resume(&mut self, heading: Heading<'_>, message: &Value) -> Result<Vec<u8>, Stop>
-        ensures { AnswersMessage (table.entry_row (view message.now) self.old rows.resume
-            (λ number after. table.accepting after))
-            self.old (shown_heading heading.entry) result self.new }
-    {
-        let number = self.named_entry(message)?;
-        let response = accepted(self.alloc, heading, Vec::new(self.alloc))?;
-        self.queue.resume(number)?;
-        Ok(response)
-    }
-
-    /// Aborts an entry that did not end, and its job with it; it leaves its engine, if it is on one.
-    fn abort(&mut self, heading: Heading<'_>, message: &Value) -> Result<Vec<u8>, Stop>
-        ensures { AnswersMessage (table.entry_row (view message.now) self.old rows.abort
-            (λ number after. table.accepting (world.given_up number after)))
-            self.old (shown_heading heading.entry) result self.new }
-    {
-        let number = self.named_entry(message)?;
-        let response = accepted(self.alloc, heading, Vec::new(self.alloc))?;
-        self.queue.abort(number)?;
-        drop_job(&mut self.works, number);
-        self.engines.leave(number);
-        Ok(response)
-    }
-
-    /// Takes an entry that waits, is held or ended off the list.
-    fn remove(&mut self, heading: Heading<'_>, message: &Value) -> Result<Vec<u8>, Stop>
-        ensures { AnswersMessage (table.entry_row (view message.now) self.old rows.remove
-            (λ number after. table.telling (adding (codes "Status") (string (codes "Removed")))
-            (world.without_gone after))) self.old (shown_heading heading.entry) result self.new }
-    {
-        let number = self.named_entry(message)?;
-        let removed = text(self.alloc, "Removed")?;
-        let response = accepted(self.alloc, heading, adding(self.alloc, "Status", removed)?)?;
-        self.queue.remove(number)?;
-        forget_gone(&mut self.works, &self.queue);
-        Ok(response)
+        self.command_entry(heading, number, command)
     }
 
     /// Gives an entry another priority.
     fn set_priority(&mut self, heading: Heading<'_>, message: &Value) -> Result<Vec<u8>, Stop>
-        ensures { AnswersMessage
-            (table.entry_number_row (codes "Priority") (view message.now)
-            self.old rows.set_priority)
+        ensures { AnswersMessage (table.numbered_row (codes "Priority")
+            (λ priority. commands.SetPriority priority) (view message.now) self.old)
             self.old (shown_heading heading.entry) result self.new }
     {
         let (number, priority) = self.named_entry_with("Priority", message)?;
-        let response = accepted(self.alloc, heading, Vec::new(self.alloc))?;
-        self.queue.set_priority(number, priority)?;
-        Ok(response)
+        self.command_entry(heading, number, EntryCommand::SetPriority(priority))
     }
 
     /// Moves an entry to an index of the list.
     fn set_position(&mut self, heading: Heading<'_>, message: &Value) -> Result<Vec<u8>, Stop>
-        ensures { AnswersMessage
-            (table.entry_number_row (codes "Position") (view message.now)
-            self.old rows.set_position)
+        ensures { AnswersMessage (table.numbered_row (codes "Position")
+            (λ position. commands.SetPosition position) (view message.now) self.old)
             self.old (shown_heading heading.entry) result self.new }
     {
         let (number, position) = self.named_entry_with("Position", message)?;
-        let response = accepted(self.alloc, heading, Vec::new(self.alloc))?;
-        self.queue.set_position(number, position)?;
-        Ok(response)
+        self.command_entry(heading, number, EntryCommand::SetPosition(position))
     }
 
     /// Tells the queue.

@@ -10,7 +10,6 @@ use Rattle.press_bits.specs.Page.{Page}
 use Rattle.press_table.specs.Counts.{counted}
 use Rattle.press_engine.specs.Machine.{StepResult}
 use Rattle.press_queue.specs.declared.entry.Entry.{Entry}
-use Rattle.press_queue.specs.declared.status.Status.{Status}
 use Rattle.press_queue.specs.declared.status.Status.TheVariants as statuses
 use Rattle.press_queue.specs.Rows as rows
 use Rattle.press_queue.specs.Status.{has_ended, new_entry}
@@ -123,12 +122,8 @@ first_of steps work after sheets same first = record {
 
 -- ---- what each thing that happens makes of it
 
-abbrev is_completed : Status → Bool
-is_completed statuses.Completed = true
-is_completed _ = false
-
 aborted_apart : statuses.Aborted ≡ statuses.Completed → ⊥
-aborted_apart is = true≢false (sym (ap is_completed is))
+aborted_apart is = cc
 
 -- nothing is handed out
 quiet : (P : List PrintedSheet → ℕ → Type 0) (before more : List PrintedSheet) (steps taken : ℕ) → IsIdle more taken → P before steps → P (before ++ more) (steps + taken)

@@ -1,33 +1,27 @@
 -- What the rows of a queue, and what follows for the works, make of each number.
-use Rattle.std.proofs.Common.{◌≡◌, ◌+◌, ◌++◌, ℕ, ℤ, nat_le, nat_eq, cond, if◌then◌else◌, Bool, true, false}
-use Rattle.std.proofs.Common.{List, [], ◌∷◌, Option, Some, None, Result, Ok, Err, is_ok, is_some, insert}
-use Rattle.std.proofs.Common.{length, ◌⊎◌, inl, inr, refl, sym, ap, subst, ◌∙◌, arith, rules, true≢false}
-use Rattle.std.specs.List.{IsDistinct}
-use Rattle.std.specs.Map.{keys_of, lookup, set_value}
+use Rattle.std.proofs.Common.{◌≡◌, ◌+◌, ◌++◌, ℕ, nat_le, nat_eq, cond, Bool, true, false}
+use Rattle.std.proofs.Common.{List, [], ◌∷◌, Option, Some, None, is_some}
+use Rattle.std.proofs.Common.{◌⊎◌, inl, inr, refl, sym, ap, subst, ◌∙◌, arith, rules, true≢false}
+use Rattle.std.specs.Map.{lookup, set_value}
 use Rattle.std.proofs.lemmas.Bool.{eqb-true}
 use Rattle.std.proofs.lemmas.Cmp.{nat_eq_equiv}
 use Rattle.std.proofs.lemmas.Map.Entries.{lookup-filter-values, option_filter}
 use Rattle.press_bits.specs.Page.{Page}
-use Rattle.press_page.specs.Environment.{changed_by}
 use Rattle.press_queue.specs.declared.command.EntryCommand.{EntryCommand}
-use Rattle.press_queue.specs.declared.command.EntryCommand.TheVariants as commands
 use Rattle.press_queue.specs.declared.entry.Entry.{Entry}
-use Rattle.press_queue.specs.declared.refusal.Refusal.{Refusal}
-use Rattle.press_queue.specs.declared.status.Status.{Status}
-use Rattle.press_queue.specs.declared.status.Status.TheVariants as statuses
-use Rattle.press_queue.specs.Entries.{entry_numbered, place_of, put, with_entry, without_entry}
-use Rattle.press_queue.specs.Legal.{is_legal}
-use Rattle.press_queue.specs.Priority.{priority_of, position_within}
+use Rattle.press_queue.specs.Entries.{entry_numbered, place_of, put, with_entry}
 use Rattle.press_queue.specs.Rows as rows
 use Rattle.press_queue.specs.State.{QueueState}
-use Rattle.press_queue.specs.Status.{has_ended, is_running, new_entry}
+use Rattle.press_queue.specs.Status.{is_running, new_entry}
 use Rattle.press_sink.specs.PrintedSheet.{PrintedSheet}
 use Rattle.press_ticket.specs.Ticket.{JobTicket}
 use Rattle.press_core.specs.Work.{IsPrintable, Work, new_work, without_job}
-use Rattle.press_core.specs.World.{works_listed, works_without_job}
-use Rattle.press_core.proofs.EntryLemmas.{added_lookup, inserted_lookup, kept_lookup, moved_lookup, removed_lookup, set_lookup}
-use Rattle.press_core.proofs.SoundLemmas.{IsLegal, kept_work, legal_of}
+use Rattle.press_core.specs.World.{Consequence, NothingElse, OffEngine, GivenUp, Forgotten, consequence, works_after, works_listed, works_without_job}
 use Rattle.press_core.proofs.AbortLemmas.{aborted_entry}
+use Rattle.press_core.proofs.CommandLemmas.{Became, Follows, Stands, fewer}
+use Rattle.press_core.proofs.EntryLemmas.{added_lookup, inserted_lookup, kept_lookup, set_lookup}
+use Rattle.press_core.proofs.SoundLemmas.{kept_work}
+use Rattle.press_core.proofs.WorkLemmas.{without_job_is}
 use Rattle.press_history.proofs.Standings.{Change, Stays, Enters, Moves, Aborts, Leaves, IsIdle, IsOpen, IsProper, IsWhole, Listed}
 use Rattle.press_history.proofs.Standings.{MayStand, Unknown, listed_is, listed_of, standing, standing_of, unknown_of}
 
@@ -90,165 +84,30 @@ set-work works number work left there n = set_lookup n number works left (ap is_
 pub same-work : (works : List (ℕ × Work)) (number : ℕ) (work : Work) → lookup (nat_eq number) works ≡ Some work → SetsWork works works number work
 same-work works number work there n = kept_lookup n number works ∙ ap (λ o. cond (nat_eq number n) o (lookup (nat_eq n) works)) there
 
--- an entry is taken out and put somewhere
-pub moved-entry : (queue : QueueState) (i number : ℕ) (is : Entry) → IsDistinct nat_eq (keys_of queue.entries)
-    → SetsEntry queue (rows.with_entries (insert (without_entry number queue.entries) i (number, is)) queue) number is
-moved-entry queue i number is distinct = record { last = refl; entries = λ n. moved_lookup n i number queue.entries is distinct }
-
 -- ---- commands to one entry
-
--- what happens to each number where only the queue changes
-abbrev pub QueueChanges : Option (JobTicket × List Page) → QueueState → List (ℕ × Work) → QueueState → Type 0
-QueueChanges submits old works new = (n : ℕ) → Change submits (standing n old works) (standing n new works) [] 0 false
-
-at-entry : (submits : Option (JobTicket × List Page)) (works : List (ℕ × Work)) (command : EntryCommand) (number : ℕ) (queue : QueueState)
-    (found : Result Entry Refusal) (row : Entry → rows.QueueAnswer (Unit {0}))
-    → rows.legal_entry command number queue.entries ≡ found
-    → ((entry : Entry) → IsLegal command number queue.entries entry → QueueChanges submits queue works (row entry).0) → QueueChanges submits queue works (rows.at_entry found queue row).0
-at-entry submits works command number queue (Err refusal) row is changes n = Stays refl idle
-at-entry submits works command number queue (Ok entry) row is changes n = changes entry (legal_of command number queue.entries (entry_numbered number queue.entries) entry refl is) n
 
 -- an entry stands for another that has not ended
 entry-moves : (submits : Option (JobTicket × List Page)) (old new : QueueState) (works : List (ℕ × Work)) (number : ℕ) (was is : Entry)
-    → IsWhole old works → entry_numbered number old.entries ≡ Some was
-    → SetsEntry old new number is → MayStand was is → QueueChanges submits old works new
-entry-moves submits old new works number was is whole there set may n =
+    → IsWhole old works → entry_numbered number old.entries ≡ Some was → SetsEntry old new number is → Stands was is
+    → (n : ℕ) → Change submits (standing n old works) (standing n new works) [] 0 false
+entry-moves submits old new works number was is whole there set stands n =
     let listed = listed_of (nat_le number old.last) (entry_numbered number old.entries) (lookup (nat_eq number) works) was (whole.proper number) there in
     let of = listed_is (nat_le number old.last) (entry_numbered number old.entries) (lookup (nat_eq number) works) was listed.0 listed.1 in
+    let may : MayStand was is = record { was = stands.was; is = stands.is; begun = stands.begun; runs = λ runs. absurd (true≢false (sym runs ∙ stands.still)) } in
     one-changes submits old new works works number was is listed.0 listed.0 [] 0 false listed.1 set (same-work works number listed.0 of.work_is) n
     (λ _. Moves was is listed.0 may refl refl idle) (λ _. idle)
 
--- no command is legal for an entry that ended, but its removal
-abbrev stays_listed : EntryCommand → Bool
-stays_listed commands.Remove = false
-stays_listed _ = true
-
-never_ended : (command : EntryCommand) → stays_listed command ≡ true → (is_legal command statuses.Completed ≡ false) × (is_legal command statuses.Aborted ≡ false)
-never_ended commands.Hold stays = (refl, refl)
-never_ended commands.Resume stays = (refl, refl)
-never_ended commands.Suspend stays = (refl, refl)
-never_ended commands.Abort stays = (refl, refl)
-never_ended commands.Remove stays = absurd (true≢false (sym stays))
-never_ended commands.SetPriority stays = (refl, refl)
-never_ended commands.SetPosition stays = (refl, refl)
-
-open_where : (command : EntryCommand) (status : Status) → stays_listed command ≡ true → is_legal command status ≡ true → has_ended status ≡ false
-open_where command statuses.Waiting stays legal = refl
-open_where command statuses.Held stays legal = refl
-open_where command statuses.Running stays legal = refl
-open_where command statuses.Suspended stays legal = refl
-open_where command statuses.Completed stays legal = absurd (true≢false (sym legal ∙ (never_ended command stays).0))
-open_where command statuses.Aborted stays legal = absurd (true≢false (sym legal ∙ (never_ended command stays).1))
-
--- another status, at which the entry neither runs nor has ended
-status-changes : (submits : Option (JobTicket × List Page)) (queue : QueueState) (works : List (ℕ × Work)) (command : EntryCommand) (number : ℕ) (status : Status) (entry : Entry) → IsWhole queue works
-    → stays_listed command ≡ true → has_ended status ≡ false → is_running status ≡ false → IsLegal command number queue.entries entry
-    → QueueChanges submits queue works (rows.set_status number status entry queue)
-status-changes submits queue works command number status entry whole stays is_open still legal =
-    entry-moves submits queue (rows.set_status number status entry queue) works number entry (record entry { status = status }) whole legal.there
-    (set-entry queue number entry (record entry { status = status }) legal.there)
-    (record { was = open_where command entry.status stays legal.legal; is = is_open; begun = refl; runs = λ runs. absurd (true≢false (sym runs ∙ still)) })
-
-pub hold-changes : (submits : Option (JobTicket × List Page)) (queue : QueueState) (works : List (ℕ × Work)) (number : ℕ)
-    → IsWhole queue works → QueueChanges submits queue works (rows.hold number queue).0
-hold-changes submits queue works number whole =
-    at-entry submits works commands.Hold number queue _ _ refl (λ entry legal. status-changes submits queue works commands.Hold number statuses.Held entry whole refl refl refl legal)
-
-pub resume-changes : (submits : Option (JobTicket × List Page)) (queue : QueueState) (works : List (ℕ × Work)) (number : ℕ)
-    → IsWhole queue works → QueueChanges submits queue works (rows.resume number queue).0
-resume-changes submits queue works number whole =
-    at-entry submits works commands.Resume number queue _ _ refl (λ entry legal. status-changes submits queue works commands.Resume number statuses.Waiting entry whole refl refl refl legal)
-
-either-changes : (submits : Option (JobTicket × List Page)) (queue : QueueState) (works : List (ℕ × Work)) (b : Bool) (one other : rows.QueueAnswer (Unit {0})) → QueueChanges submits queue works one.0
-    → QueueChanges submits queue works other.0 → QueueChanges submits queue works (if b then one else other).0
-either-changes submits queue works true one other p q = p
-either-changes submits queue works false one other p q = q
-
-pub suspend-changes : (submits : Option (JobTicket × List Page)) (queue : QueueState) (works : List (ℕ × Work)) (number : ℕ)
-    → IsWhole queue works → QueueChanges submits queue works (rows.suspend number queue).0
-suspend-changes submits queue works number whole =
-    at-entry submits works commands.Suspend number queue _ _ refl
-    (λ entry legal. either-changes submits queue works _ _ _ (λ n. Stays refl idle)
-    (status-changes submits queue works commands.Suspend number statuses.Suspended entry whole refl refl refl legal))
-
--- an entry is put elsewhere, with its status
-placed-changes : (submits : Option (JobTicket × List Page)) (queue : QueueState) (works : List (ℕ × Work)) (command : EntryCommand)
-    (i number : ℕ) (was is : Entry)
-    → IsWhole queue works → stays_listed command ≡ true
-    → IsLegal command number queue.entries was → is.status ≡ was.status → is.begun ≡ was.begun
-    → QueueChanges submits queue works (rows.with_entries (insert (without_entry number queue.entries) i (number, is)) queue)
-placed-changes submits queue works command i number was is whole stays legal status begun =
-    let is_open : IsOpen was = open_where command was.status stays legal.legal in
-    entry-moves submits queue (rows.with_entries (insert (without_entry number queue.entries) i (number, is)) queue) works number was is whole legal.there
-    (moved-entry queue i number is whole.queue_is.distinct)
-    (record { was = is_open; is = ap has_ended status ∙ is_open; begun = begun; runs = λ runs. sym (ap is_running status) ∙ runs })
-
-reprioritized-changes : (submits : Option (JobTicket × List Page)) (queue : QueueState) (works : List (ℕ × Work)) (number : ℕ) (o : Option ℕ) (entry : Entry) → IsWhole queue works
-    → IsLegal commands.SetPriority number queue.entries entry → QueueChanges submits queue works (rows.reprioritized number o entry queue).0
-reprioritized-changes submits queue works number None entry whole legal = λ n. Stays refl idle
-reprioritized-changes submits queue works number (Some priority) entry whole legal =
-    placed-changes submits queue works commands.SetPriority (place_of priority (without_entry number queue.entries)) number entry (record entry { priority = priority }) whole refl legal refl refl
-
-pub set_priority-changes : (submits : Option (JobTicket × List Page)) (queue : QueueState) (works : List (ℕ × Work)) (number : ℕ) (priority : ℤ) → IsWhole queue works
-    → QueueChanges submits queue works (rows.set_priority number priority queue).0
-set_priority-changes submits queue works number priority whole =
-    at-entry submits works commands.SetPriority number queue _ _ refl (λ entry legal. reprioritized-changes submits queue works number (priority_of priority) entry whole legal)
-
-repositioned-changes : (submits : Option (JobTicket × List Page)) (queue : QueueState) (works : List (ℕ × Work)) (number : ℕ) (o : Option ℕ) (entry : Entry) → IsWhole queue works
-    → IsLegal commands.SetPosition number queue.entries entry → QueueChanges submits queue works (rows.repositioned number o entry queue).0
-repositioned-changes submits queue works number None entry whole legal = λ n. Stays refl idle
-repositioned-changes submits queue works number (Some index) entry whole legal =
-    placed-changes submits queue works commands.SetPosition index number entry entry whole refl legal refl refl
-
-pub set_position-changes : (submits : Option (JobTicket × List Page)) (queue : QueueState) (works : List (ℕ × Work)) (number : ℕ) (position : ℤ) → IsWhole queue works
-    → QueueChanges submits queue works (rows.set_position number position queue).0
-set_position-changes submits queue works number position whole =
-    at-entry submits works commands.SetPosition number queue _ _ refl
-    (λ entry legal.
-    repositioned-changes submits queue works number (position_within (length queue.entries) position) entry whole legal)
-
--- ---- an entry that is aborted
-
--- what it leaves of the queue and the works
-record Ends (queue : QueueState) (works : List (ℕ × Work)) (number : ℕ) (entry : Entry) : Type 0 where
-  pub work : Work
-  pub stood : standing number queue works ≡ Listed entry work
-  pub entry_set : SetsEntry queue (rows.set_status number statuses.Aborted entry queue) number (aborted_entry entry)
-  pub work_set : SetsWork works (works_without_job number works) number (without_job work)
-
-ends : (queue : QueueState) (works : List (ℕ × Work)) (number : ℕ) (entry : Entry) → IsWhole queue works → entry_numbered number queue.entries ≡ Some entry → Ends queue works number entry
-ends queue works number entry whole there =
-    let listed = listed_of (nat_le number queue.last) (entry_numbered number queue.entries) (lookup (nat_eq number) works) entry (whole.proper number) there in
-    let of = listed_is (nat_le number queue.last) (entry_numbered number queue.entries) (lookup (nat_eq number) works) entry listed.0 listed.1 in
-    let left : works_without_job number works ≡ set_value (nat_eq number) works (without_job listed.0) =
-    ap (λ o. changed_by o (λ w all. set_value (nat_eq number) all (without_job w)) works) of.work_is in
-    record {
-      work = listed.0;
-      stood = listed.1;
-      entry_set = set-entry queue number entry (aborted_entry entry) there;
-      work_set = subst (λ ws. SetsWork works ws number (without_job listed.0)) (sym left) (set-work works number listed.0 (without_job listed.0) of.work_is);
-    }
-
-ends-changes : (submits : Option (JobTicket × List Page)) (queue : QueueState) (works : List (ℕ × Work)) (number : ℕ) (entry : Entry)
-    → IsWhole queue works → entry_numbered number queue.entries ≡ Some entry
-    → IsOpen entry → (n : ℕ) → Change submits (standing n queue works) (standing n (rows.set_status number statuses.Aborted entry queue) (works_without_job number works)) [] 0 false
-ends-changes submits queue works number entry whole there is_open n =
-    let it = ends queue works number entry whole there in
-    one-changes submits queue (rows.set_status number statuses.Aborted entry queue) works (works_without_job number works) number entry (aborted_entry entry) it.work (without_job it.work) [] 0 false
-    it.stood it.entry_set it.work_set n (λ _. Aborts entry it.work is_open refl refl idle) (λ _. idle)
-
-pub abort-changes : (submits : Option (JobTicket × List Page)) (number : ℕ) (queue new : QueueState) (works : List (ℕ × Work)) → IsWhole queue works → rows.abort number queue ≡ (new, Ok tt)
-    → (n : ℕ) → Change submits (standing n queue works) (standing n new (works_without_job number works)) [] 0 false
-abort-changes submits number queue new works whole is n = at_found (rows.legal_entry commands.Abort number queue.entries) refl is
-  where
-    at_found : (found : Result Entry Refusal) → rows.legal_entry commands.Abort number queue.entries ≡ found
-        → rows.at_entry found queue (λ entry. rows.accepted (rows.set_status number statuses.Aborted entry queue)) ≡ (new, Ok tt)
-        → Change submits (standing n queue works) (standing n new (works_without_job number works)) [] 0 false
-    at_found (Err refusal) found e = absurd (true≢false (sym (ap (λ r. is_ok r.1) e)))
-    at_found (Ok entry) found e =
-        let legal = legal_of commands.Abort number queue.entries (entry_numbered number queue.entries) entry refl found in
-        subst (λ q. Change submits (standing n queue works) (standing n q (works_without_job number works)) [] 0 false) (ap (λ r. r.0) e)
-        (ends-changes submits queue works number entry whole legal.there (open_where commands.Abort entry.status refl legal.legal) n)
+-- an entry is aborted, and its work is without its job
+entry-aborts : (submits : Option (JobTicket × List Page)) (old new : QueueState) (works : List (ℕ × Work)) (number : ℕ) (was : Entry)
+    → IsWhole old works → entry_numbered number old.entries ≡ Some was → SetsEntry old new number (aborted_entry was) → IsOpen was
+    → (n : ℕ) → Change submits (standing n old works) (standing n new (works_without_job number works)) [] 0 false
+entry-aborts submits old new works number was whole there set is_open n =
+    let listed = listed_of (nat_le number old.last) (entry_numbered number old.entries) (lookup (nat_eq number) works) was (whole.proper number) there in
+    let of = listed_is (nat_le number old.last) (entry_numbered number old.entries) (lookup (nat_eq number) works) was listed.0 listed.1 in
+    one-changes submits old new works (works_without_job number works) number was (aborted_entry was) listed.0 (without_job listed.0) [] 0 false listed.1 set
+    (subst (λ ws. SetsWork works ws number (without_job listed.0)) (sym (without_job_is number works listed.0 of.work_is))
+    (set-work works number listed.0 (without_job listed.0) of.work_is)) n
+    (λ _. Aborts was listed.0 is_open refl refl idle) (λ _. idle)
 
 -- ---- entries that leave the list
 
@@ -290,26 +149,25 @@ gone-changes submits old new works whole last less n = at (less n)
     at (inl none) = gone none
     at (inr same) = kept (entry_numbered n old.entries) refl same
 
-cond_none : {X : Type 0} (b : Bool) (o p : Option X) → p ≡ cond b None o → (p ≡ None) ⊎ (p ≡ o)
-cond_none true o p is = inl is
-cond_none false o p is = inr is
-
-removed-changes : (submits : Option (JobTicket × List Page)) (number : ℕ) (queue : QueueState) (works : List (ℕ × Work)) → IsWhole queue works
-    → (n : ℕ) → Change submits (standing n queue works)
-    (standing n (rows.with_entries (without_entry number queue.entries) queue) (works_listed (rows.with_entries (without_entry number queue.entries) queue) works)) [] 0 false
-removed-changes submits number queue works whole =
-    gone-changes submits queue (rows.with_entries (without_entry number queue.entries) queue) works whole refl
-    (λ n. cond_none (nat_eq number n) (entry_numbered n queue.entries) _ (removed_lookup n number queue.entries whole.queue_is.distinct))
-
-pub remove-changes : (submits : Option (JobTicket × List Page)) (number : ℕ) (queue new : QueueState) (works : List (ℕ × Work)) → IsWhole queue works → rows.remove number queue ≡ (new, Ok tt)
-    → (n : ℕ) → Change submits (standing n queue works) (standing n new (works_listed new works)) [] 0 false
-remove-changes submits number queue new works whole is n = at_found (rows.legal_entry commands.Remove number queue.entries) is
+-- a command that was carried out, and what follows of it
+pub commanded-changes : (submits : Option (JobTicket × List Page)) (command : EntryCommand) (number : ℕ) (queue new : QueueState) (works : List (ℕ × Work)) → IsWhole queue works
+    → Became command number queue new
+    → (n : ℕ) → Change submits (standing n queue works) (standing n new (works_after (consequence command) number new works)) [] 0 false
+commanded-changes submits command number queue new works whole it = by (consequence command) it.now it.follows it.set
   where
-    at_found : (found : Result Entry Refusal) → rows.at_entry found queue (λ entry. rows.accepted (rows.with_entries (without_entry number queue.entries) queue)) ≡ (new, Ok tt)
-        → Change submits (standing n queue works) (standing n new (works_listed new works)) [] 0 false
-    at_found (Err refusal) e = absurd (true≢false (sym (ap (λ r. is_ok r.1) e)))
-    at_found (Ok entry) e =
-        subst (λ q. Change submits (standing n queue works) (standing n q (works_listed q works)) [] 0 false) (ap (λ r. r.0) e) (removed-changes submits number queue works whole n)
+    by : (what : Consequence) (now : Option Entry) → Follows what it.entry now
+        → ((n : ℕ) → entry_numbered n new.entries ≡ cond (nat_eq number n) now (entry_numbered n queue.entries))
+        → (n : ℕ) → Change submits (standing n queue works) (standing n new (works_after what number new works)) [] 0 false
+    by NothingElse (Some is) f set = entry-moves submits queue new works number it.entry is whole it.there (record { last = it.last; entries = set }) f.0
+    by OffEngine (Some is) f set = entry-moves submits queue new works number it.entry is whole it.there (record { last = it.last; entries = set }) f
+    by GivenUp (Some is) f set =
+        entry-aborts submits queue new works number it.entry whole it.there
+        (subst (λ e. SetsEntry queue new number e) f.0 (record { last = it.last; entries = set })) f.1
+    by Forgotten None f set = gone-changes submits queue new works whole it.last (λ n. fewer number n _ _ (set n))
+    by NothingElse None f set = absurd f
+    by OffEngine None f set = absurd f
+    by GivenUp None f set = absurd f
+    by Forgotten (Some is) f set = absurd f
 
 filtered : {X : Type 0} (p : X → Bool) (o : Option X) → (option_filter p o ≡ None) ⊎ (option_filter p o ≡ o)
 filtered p None = inl refl

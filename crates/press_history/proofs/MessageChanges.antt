@@ -1,15 +1,18 @@
 -- What a message makes of the queue and of each number.
-use Rattle.std.proofs.Common.{◌≡◌, ◌++◌, ◌+◌, ℕ, ℤ, nat_eq, nat_le, false, List, [], ◌∷◌, Option, Some, None, IfSome, Result, Ok, Err, option_map, option_and_then, refl, sym, ap, subst, arith, rules}
+use Rattle.std.proofs.Common.{◌≡◌, ◌++◌, ◌+◌, ℕ, ℤ, nat_eq, nat_le, false, List, [], ◌∷◌, Option, Some, None, IfSome, Result, Ok, Err, option_map, option_and_then, refl, sym, ap, subst, arith, rules, length}
 use Rattle.std.specs.Prelude.{codes}
 use Rattle.std.specs.Map.{lookup}
 use Rattle.std.specs.Result.{result_ok}
 use Rattle.serde_json.specs.Data.{Data}
 use Rattle.press_bits.specs.Page.{Page}
+use Rattle.press_queue.specs.declared.command.EntryCommand.{EntryCommand}
+use Rattle.press_queue.specs.declared.command.EntryCommand.TheVariants as commands
 use Rattle.press_queue.specs.Entries.{entry_numbered}
 use Rattle.press_queue.specs.EveryQueue.{IsQueue}
 use Rattle.press_queue.specs.Laws.{EachRowKeepsTheQueue}
 use Rattle.press_queue.specs.Rows as rows
 use Rattle.press_queue.specs.State.{QueueState}
+use Rattle.press_queue.proofs.CommandLemmas.{Commanded, commanded_is}
 use Rattle.press_ticket.specs.Ticket.{JobTicket}
 use Rattle.press_core.specs.declared.fault.Refused.{Refused}
 use Rattle.press_core.specs.declared.flag.FlagCommand.{FlagCommand}
@@ -21,22 +24,24 @@ use Rattle.press_core.specs.Messages.{Heading, Headed, heading_of, message_in}
 use Rattle.press_core.specs.Parameters.{and_then}
 use Rattle.press_core.specs.Rows as table
 use Rattle.press_core.specs.Work.{IsPrintable, new_work}
-use Rattle.press_core.specs.World.{World, with_queue}
-use Rattle.press_history.proofs.ChangeLemmas.{QueueChanges, abort-changes, enters-changes, flush-changes, hold-changes, idle}
-use Rattle.press_history.proofs.ChangeLemmas.{remove-changes, resume-changes, set_position-changes, set_priority-changes, suspend-changes}
-use Rattle.press_core.proofs.EngineLemmas.{RunsAsBefore, on_engines-kept, on_engines-left}
-use Rattle.press_core.proofs.RunsLemmas.{abort-but, flush-runs, hold-runs, remove-runs, resume-runs, set_position-runs, set_priority-runs, submitted-runs, suspend-but}
+use Rattle.press_core.specs.World.{World, consequence, with_queue}
+use Rattle.press_history.proofs.CountLemmas.{length-engines_after}
+use Rattle.press_history.proofs.ChangeLemmas.{commanded-changes, enters-changes, flush-changes, idle}
+use Rattle.press_core.proofs.CommandLemmas.{became, engines-commanded}
+use Rattle.press_core.proofs.EngineLemmas.{RunsAsBefore, on_engines-kept, runs_in}
+use Rattle.press_core.proofs.RunsLemmas.{flush-runs, submitted-runs}
 use Rattle.press_core.proofs.SoundLemmas.{submitted_is}
-use Rattle.press_history.proofs.Standings.{Change, Stays, IsWholeWorld, standing, unknown_of}
+use Rattle.press_history.proofs.Standings.{Change, Stays, IsWholeWorld, standing, standing_of, unknown_of}
 
--- The queue is still one, its entries that run are on engines, and this happens to each number, where nothing is handed out.
+-- The queue is still one, its entries that run are on engines, there are as many engines, and this happens to each number, where nothing is handed out.
 pub record Becomes (submits : Option (JobTicket × List Page)) (old new : World) : Type 0 where
   pub queue : IsQueue new.queue
   pub on_engines : RunsOnEngines new.queue new.engines
+  pub count : length new.engines ≡ length old.engines
   pub each : (n : ℕ) → Change submits (standing n old.queue old.works) (standing n new.queue new.works) [] 0 false
 
 pub becomes_same : (submits : Option (JobTicket × List Page)) (world : World) → IsWholeWorld world → Becomes submits world world
-becomes_same submits world whole = record { queue = whole.numbers.queue_is; on_engines = whole.on_engines; each = λ n. Stays refl idle }
+becomes_same submits world whole = record { queue = whole.numbers.queue_is; on_engines = whole.on_engines; count = refl; each = λ n. Stays refl idle }
 
 -- ---- what follows a refusal
 
@@ -56,13 +61,27 @@ row-becomes : {A : Type 0} (submits : Option (JobTicket × List Page)) (answer :
 row-becomes submits (queue, Err refusal) world row next = tt
 row-becomes submits (queue, Ok a) world row next = next a queue refl
 
--- a command that changes the queue alone
-queue-becomes : (submits : Option (JobTicket × List Page)) (answer : rows.QueueAnswer (Unit {0})) (world : World) → IsWholeWorld world → IsQueue answer.0
-    → RunsAsBefore world.queue answer.0 → QueueChanges submits world.queue world.works answer.0
-    → AnswersBecome submits world (and_then (λ done. table.accepting done.1) (table.after_queue world answer))
-queue-becomes submits (queue, Err refusal) world whole queue_is runs changes = tt
-queue-becomes submits (queue, Ok a) world whole queue_is runs changes =
-    record { queue = queue_is; on_engines = on_engines-kept world.queue queue world.engines runs whole.on_engines; each = changes }
+-- a command to one entry, and what follows of it
+entry-becomes : EachRowKeepsTheQueue → (command : EntryCommand) (number : ℕ) (world : World) → IsWholeWorld world → AnswersBecome None world (table.entry_row command number world)
+entry-becomes law command number world whole =
+    row-becomes None (rows.commanded command number world.queue) world _ (λ done queue is.
+    let carried = subst (Commanded command number world.queue) is (commanded_is command number world.queue) in
+    let it = became command number world.queue queue whole.numbers.queue_is.distinct carried in
+    record {
+      queue = subst IsQueue (ap (λ r. r.0) is) (law.command command number world.queue whole.numbers.queue_is);
+      on_engines = engines-commanded command number world.queue queue world.engines it whole.on_engines;
+      count = length-engines_after (consequence command) number world.engines;
+      each = commanded-changes None command number world.queue queue world.works whole.numbers it;
+    })
+
+named-entry : EachRowKeepsTheQueue → (command : EntryCommand) (message : Data) (world : World) → IsWholeWorld world → AnswersBecome None world (table.named_row command message world)
+named-entry law command message world whole =
+    named-becomes None (table.named_entry message world.queue) world _ (λ number _. entry-becomes law command number world whole)
+
+numbered-entry : EachRowKeepsTheQueue → (key : List ℕ) (command : ℤ → EntryCommand) (message : Data) (world : World) → IsWholeWorld world
+    → AnswersBecome None world (table.numbered_row key command message world)
+numbered-entry law key command message world whole =
+    named-becomes None (table.named_entry_with key message world.queue) world _ (λ both _. entry-becomes law (command both.1) both.0 world whole)
 
 -- ---- the row of each type
 
@@ -83,6 +102,7 @@ submit-becomes law images (Ok both) world whole printable =
       on_engines =
           on_engines-kept world.queue queue world.engines
           (subst (RunsAsBefore world.queue) (sym submitted.is) (submitted-runs number submitted.priority number world.queue (fresh number submitted.next))) whole.on_engines;
+      count = refl;
       each = λ n.
           subst (λ (q : QueueState). Change (Some (both.0, images)) (standing n world.queue world.works) (standing n q (world.works ++ (number, new_work both.0 images) ∷ [])) [] 0 false)
           (sym submitted.is)
@@ -94,78 +114,35 @@ submit-becomes law images (Ok both) world whole printable =
         let above : nat_le number world.queue.last ≡ false = grind (arith, rules, next) in
         (unknown_of (nat_le number world.queue.last) (entry_numbered number world.queue.entries) (lookup (nat_eq number) world.works) (whole.numbers.proper number) above).0
 
+-- what changes neither entries nor numbers
+flags-become : (world : World) (queue : QueueState) → IsWholeWorld world → IsQueue queue → queue.entries ≡ world.queue.entries → queue.last ≡ world.queue.last
+    → Becomes None world (with_queue queue world)
+flags-become world queue whole queue_is entries last = record {
+  queue = queue_is;
+  on_engines = on_engines-kept world.queue queue world.engines (λ n. ap (λ es. runs_in (entry_numbered n es)) entries) whole.on_engines;
+  count = refl;
+  each = λ n. Stays (λ j. standing_of (nat_le n (last j)) (entry_numbered n (entries j)) (lookup (nat_eq n) world.works)) idle;
+}
+
 flag-becomes : EachRowKeepsTheQueue → (flag : FlagCommand) (world : World) → IsWholeWorld world → Becomes None world (with_queue (table.flagged flag world.queue) world)
-flag-becomes law flags.Hold world whole =
-    record {
-      queue = law.hold_queue world.queue whole.numbers.queue_is;
-      on_engines = on_engines-kept world.queue (table.flagged flags.Hold world.queue) world.engines (λ n. refl) whole.on_engines;
-      each = λ n. Stays refl idle;
-    }
-flag-becomes law flags.Resume world whole =
-    record {
-      queue = law.resume_queue world.queue whole.numbers.queue_is;
-      on_engines = on_engines-kept world.queue (table.flagged flags.Resume world.queue) world.engines (λ n. refl) whole.on_engines;
-      each = λ n. Stays refl idle;
-    }
-flag-becomes law flags.Open world whole =
-    record {
-      queue = law.open_queue world.queue whole.numbers.queue_is;
-      on_engines = on_engines-kept world.queue (table.flagged flags.Open world.queue) world.engines (λ n. refl) whole.on_engines;
-      each = λ n. Stays refl idle;
-    }
-flag-becomes law flags.Close world whole =
-    record {
-      queue = law.close_queue world.queue whole.numbers.queue_is;
-      on_engines = on_engines-kept world.queue (table.flagged flags.Close world.queue) world.engines (λ n. refl) whole.on_engines;
-      each = λ n. Stays refl idle;
-    }
+flag-becomes law flags.Hold world whole = flags-become world (rows.hold_queue world.queue) whole (law.hold_queue world.queue whole.numbers.queue_is) refl refl
+flag-becomes law flags.Resume world whole = flags-become world (rows.resume_queue world.queue) whole (law.resume_queue world.queue whole.numbers.queue_is) refl refl
+flag-becomes law flags.Open world whole = flags-become world (rows.open_queue world.queue) whole (law.open_queue world.queue whole.numbers.queue_is) refl refl
+flag-becomes law flags.Close world whole = flags-become world (rows.close_queue world.queue) whole (law.close_queue world.queue whole.numbers.queue_is) refl refl
 
 response_row-becomes : EachRowKeepsTheQueue → (message_type : MessageType) (message : Data) (images : List Page) (world : World) → IsWholeWorld world
     → IfSome (table.ticket_of_type message_type message images) (λ ticket. IsPrintable ticket images)
     → AnswersBecome (submits_in images (table.ticket_of_type message_type message images)) world (table.response_row message_type message images world)
 response_row-becomes law types.SubmitQueueEntry message images world whole printable = submit-becomes law images (table.submission message images) world whole printable
-response_row-becomes law types.HoldQueueEntry message images world whole printable =
-    named-becomes None (table.named_entry message world.queue) world _ (λ number _.
-    queue-becomes None (rows.hold number world.queue) world whole (law.hold number world.queue whole.numbers.queue_is) (hold-runs number world.queue)
-    (hold-changes None world.queue world.works number whole.numbers))
-response_row-becomes law types.ResumeQueueEntry message images world whole printable =
-    named-becomes None (table.named_entry message world.queue) world _ (λ number _.
-    queue-becomes None (rows.resume number world.queue) world whole (law.resume number world.queue whole.numbers.queue_is) (resume-runs number world.queue)
-    (resume-changes None world.queue world.works number whole.numbers))
-response_row-becomes law types.SuspendQueueEntry message images world whole printable =
-    named-becomes None (table.named_entry message world.queue) world _ (λ number _.
-    row-becomes None (rows.suspend number world.queue) world _ (λ a queue is.
-    record {
-      queue = subst IsQueue (ap (λ r. r.0) is) (law.suspend number world.queue whole.numbers.queue_is);
-      on_engines = on_engines-left number world.queue queue world.engines (suspend-but number world.queue queue (sym is)) whole.on_engines;
-      each = subst (λ (q : QueueState). QueueChanges None world.queue world.works q) (ap (λ r. r.0) is) (suspend-changes None world.queue world.works number whole.numbers);
-    }))
-response_row-becomes law types.AbortQueueEntry message images world whole printable =
-    named-becomes None (table.named_entry message world.queue) world _ (λ number _.
-    row-becomes None (rows.abort number world.queue) world _ (λ a queue is.
-    record {
-      queue = subst IsQueue (ap (λ r. r.0) is) (law.abort number world.queue whole.numbers.queue_is);
-      on_engines = on_engines-left number world.queue queue world.engines (abort-but number world.queue queue (sym is)) whole.on_engines;
-      each = abort-changes None number world.queue queue world.works whole.numbers is;
-    }))
-response_row-becomes law types.RemoveQueueEntry message images world whole printable =
-    named-becomes None (table.named_entry message world.queue) world _ (λ number _.
-    row-becomes None (rows.remove number world.queue) world _ (λ a queue is.
-    record {
-      queue = subst IsQueue (ap (λ r. r.0) is) (law.remove number world.queue whole.numbers.queue_is);
-      on_engines =
-          on_engines-kept world.queue queue world.engines
-          (subst (RunsAsBefore world.queue) (ap (λ r. r.0) is) (remove-runs number world.queue whole.numbers.queue_is.distinct)) whole.on_engines;
-      each = remove-changes None number world.queue queue world.works whole.numbers is;
-    }))
+response_row-becomes law types.HoldQueueEntry message images world whole printable = named-entry law commands.Hold message world whole
+response_row-becomes law types.ResumeQueueEntry message images world whole printable = named-entry law commands.Resume message world whole
+response_row-becomes law types.SuspendQueueEntry message images world whole printable = named-entry law commands.Suspend message world whole
+response_row-becomes law types.AbortQueueEntry message images world whole printable = named-entry law commands.Abort message world whole
+response_row-becomes law types.RemoveQueueEntry message images world whole printable = named-entry law commands.Remove message world whole
 response_row-becomes law types.SetQueueEntryPriority message images world whole printable =
-    named-becomes None (table.named_entry_with (codes "Priority") message world.queue) world _ (λ both _.
-    queue-becomes None (rows.set_priority both.0 both.1 world.queue) world whole (law.set_priority both.0 both.1 world.queue whole.numbers.queue_is)
-    (set_priority-runs both.0 both.1 world.queue whole.numbers.queue_is.distinct) (set_priority-changes None world.queue world.works both.0 both.1 whole.numbers))
+    numbered-entry law (codes "Priority") (λ priority. commands.SetPriority priority) message world whole
 response_row-becomes law types.SetQueueEntryPosition message images world whole printable =
-    named-becomes None (table.named_entry_with (codes "Position") message world.queue) world _ (λ both _.
-    queue-becomes None (rows.set_position both.0 both.1 world.queue) world whole (law.set_position both.0 both.1 world.queue whole.numbers.queue_is)
-    (set_position-runs both.0 both.1 world.queue whole.numbers.queue_is.distinct) (set_position-changes None world.queue world.works both.0 both.1 whole.numbers))
+    numbered-entry law (codes "Position") (λ position. commands.SetPosition position) message world whole
 response_row-becomes law types.HoldQueue message images world whole printable = flag-becomes law flags.Hold world whole
 response_row-becomes law types.ResumeQueue message images world whole printable = flag-becomes law flags.Resume world whole
 response_row-becomes law types.OpenQueue message images world whole printable = flag-becomes law flags.Open world whole
@@ -174,6 +151,7 @@ response_row-becomes law types.FlushQueue message images world whole printable =
     record {
       queue = law.flush world.queue whole.numbers.queue_is;
       on_engines = on_engines-kept world.queue (rows.flush world.queue) world.engines (flush-runs world.queue whole.numbers.queue_is.distinct) whole.on_engines;
+      count = refl;
       each = flush-changes None world.queue world.works whole.numbers;
     }
 response_row-becomes law types.QueueStatus message images world whole printable = becomes_same None world whole

@@ -1,5 +1,5 @@
 -- Runs of events, and the laws over them.
-use Rattle.std.proofs.Common.{◌≡◌, ◌≤◌, ◌+◌, ◌++◌, ◌||◌, ℕ, nat_le, nat_eq, cond, find, Bool, true, false, List, [], ◌∷◌}
+use Rattle.std.proofs.Common.{◌≡◌, ◌≤◌, ◌+◌, ◌++◌, ◌||◌, ℕ, nat_le, nat_eq, cond, find, Bool, true, false, List, [], ◌∷◌, length}
 use Rattle.std.proofs.Common.{Option, Some, None, refl, sym, ap, subst, ◌∙◌, arith, rules, append_assoc, append-nil}
 use Rattle.std.specs.List.{flat_map}
 use Rattle.std.specs.Map.{lookup}
@@ -23,8 +23,8 @@ use Rattle.press_core.specs.Turns.{IsJobOf, sheets_from}
 use Rattle.press_core.specs.Work.{new_work}
 use Rattle.press_core.specs.World.{World, is_listed, new_world}
 use Rattle.press_history.proofs.AccountLemmas.{Account, EnteredBy, IsKnown, account-listed, account-never, account-work, account-next, account-seen, found_now, given_as, is_given, seen_now-is}
-use Rattle.press_history.proofs.CountLemmas.{run-many}
-use Rattle.press_core.proofs.EngineLemmas.{on_engines-new}
+use Rattle.press_history.proofs.CountLemmas.{taken_on-many}
+use Rattle.press_core.proofs.EngineLemmas.{length-none, on_engines-new}
 use Rattle.press_history.proofs.BoundLemmas.{running-bound}
 use Rattle.press_history.proofs.HandedLemmas.{handed-append}
 use Rattle.press_core.proofs.JobLemmas.{IsJobOf-one, IsJobOf-some}
@@ -38,6 +38,7 @@ use Rattle.press_history.proofs.TurnChanges.{operator-becomes, turn-becomes}
 pub record EventDoes (old : World) (event : Event) (answer : EventAnswer) (handed : List Delivery) (next : World) : Type 0 where
   pub queue : IsQueue next.queue
   pub on_engines : RunsOnEngines next.queue next.engines
+  pub count : length next.engines ≡ length old.engines
   pub each : (n : ℕ)
       → Change (submitted_by event) (standing n old.queue old.works) (standing n next.queue next.works) (sheets_under n handed)
       (steps_answered n answer) (is_fault_of n old event answer)
@@ -47,6 +48,7 @@ of-message : (old : World) (text : List ℕ) (images : List Page) (bytes : List 
 of-message old text images bytes handed between next none same becomes = record {
   queue = subst (λ (w : World). IsQueue w.queue) (sym same) becomes.queue;
   on_engines = subst (λ (w : World). RunsOnEngines w.queue w.engines) (sym same) becomes.on_engines;
+  count = ap (λ (w : World). length w.engines) same ∙ becomes.count;
   each = λ n.
       subst (λ l. Change (submitted_by (Message text images)) (standing n old.queue old.works) (standing n next.queue next.works) (sheets_under n l) 0 false) (sym none)
       (subst (λ (w : World). Change (submitted_by (Message text images)) (standing n old.queue old.works) (standing n w.queue w.works) [] 0 false) (sym same) (becomes.each n));
@@ -59,16 +61,18 @@ event-does law old (Message text images) (Response (Some bytes)) handed next who
 event-does law old (Message text images) (Response None) handed next whole happens = record {
   queue = subst (λ (w : World). IsQueue w.queue) (sym happens.1) whole.numbers.queue_is;
   on_engines = subst (λ (w : World). RunsOnEngines w.queue w.engines) (sym happens.1) whole.on_engines;
+  count = ap (λ (w : World). length w.engines) happens.1;
   each = λ n. Stays (ap (λ (w : World). standing n w.queue w.works) happens.1) (record { no_sheets = ap (sheets_under n) happens.0; no_steps = refl });
 }
 event-does law old (TurnOn engine most) (Turned result) handed next whole happens =
     let becomes = turn-becomes law old engine most result handed next whole happens in
-    record { queue = becomes.queue; on_engines = becomes.on_engines; each = becomes.each }
+    record { queue = becomes.queue; on_engines = becomes.on_engines; count = taken_on-many old engine most result handed next happens; each = becomes.each }
 event-does law old (Operator command) Nothing handed next whole happens =
     let becomes = operator-becomes command old whole in
     record {
       queue = subst (λ (w : World). IsQueue w.queue) (sym happens.1) becomes.queue;
       on_engines = subst (λ (w : World). RunsOnEngines w.queue w.engines) (sym happens.1) becomes.on_engines;
+      count = ap (λ (w : World). length w.engines) happens.1 ∙ becomes.count;
       each = λ n.
           subst (λ l. Change None (standing n old.queue old.works) (standing n next.queue next.works) (sheets_under n l) 0 false) (sym happens.0)
           (subst (λ (w : World). Change None (standing n old.queue old.works) (standing n w.queue w.works) [] 0 false) (sym happens.1) (becomes.each n));
@@ -302,6 +306,14 @@ entries-do-not-interfere jobs law = record {
 
 -- ---- bounds
 
+-- there are as many engines as at the beginning
+leads-many : EachRowKeepsTheQueue → (world : World) (happenings : List Transition) (last : World) → IsWholeWorld world → IsExecution world happenings last
+    → length last.engines ≡ length world.engines
+leads-many law world [] last whole leads = ap (λ (w : World). length w.engines) leads
+leads-many law world (h ∷ happenings) last whole (happens, leads) =
+    let does = event-does law world h.event h.answer h.handed h.next whole happens in
+    leads-many law h.next happenings last (whole-next world h.event h.answer h.handed h.next whole does) leads ∙ does.count
+
 -- the world that a run leads to
 whole-last : EachRowKeepsTheQueue → (happenings : List Transition) (last : World) → IsRun happenings last → IsWholeWorld last
 whole-last law happenings last run = run-whole law (new_world run.engines) happenings last (new-whole law run.engines run.are) run.leads
@@ -309,7 +321,8 @@ whole-last law happenings last run = run-whole law (new_world run.engines) happe
 pub entries-are-bounded : EachRowKeepsTheQueue → EntriesAreBounded
 entries-are-bounded law = record {
   on_engines = λ happenings last run. (whole-last law happenings last run).on_engines;
-  count = run-many;
+  count = λ happenings last run.
+      leads-many law (new_world run.engines) happenings last (new-whole law run.engines run.are) run.leads ∙ length-none run.engines;
   running = λ happenings last run.
       let whole = whole-last law happenings last run in
       running-bound last.queue last.engines whole.numbers.queue_is.distinct whole.on_engines;

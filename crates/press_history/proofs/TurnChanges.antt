@@ -18,6 +18,7 @@ use Rattle.press_queue.specs.Laws.{EachRowKeepsTheQueue}
 use Rattle.press_queue.specs.Rows as rows
 use Rattle.press_queue.specs.State.{QueueState}
 use Rattle.press_queue.specs.Status.{has_ended, is_running, is_waiting, status_at_end}
+use Rattle.press_queue.proofs.StatusLemmas.{excluded}
 use Rattle.press_sink.specs.declared.sheet.Delivery.{Delivery}
 use Rattle.press_sink.specs.Sending.{under_tag}
 use Rattle.press_sink.specs.PrintedSheet.{PrintedSheet}
@@ -32,7 +33,7 @@ use Rattle.press_history.specs.History.{sheets_under, is_fault_of, steps_answere
 use Rattle.press_core.specs.Turns.{EntrySteps, IsJobOf, StepsTo, TakesTurn, TakesTurnOn, TurnAt, at_turn, at_turn_with, completed, is_idle, progress_in_job, steps_from, with_turn}
 use Rattle.press_core.specs.Work.{Work, at_progress, with_delivered, without_job}
 use Rattle.press_core.specs.World.{World, has_engine, on_engine, with_work}
-use Rattle.press_history.proofs.AbortedQueues.{keyed-lookup, on_engines-free, queue-aborted}
+use Rattle.press_history.proofs.AbortedQueues.{keyed-lookup, length-aborted_running, on_engines-free, queue-aborted}
 use Rattle.press_history.proofs.ChangeLemmas.{idle, one-changes, set-entry, set-work}
 use Rattle.press_core.proofs.EngineLemmas.{on_engines-left, on_engines-taken, runs-on_engine, set-same}
 use Rattle.press_history.proofs.HandedLemmas.{handed-other, handed-own}
@@ -54,14 +55,6 @@ runs_then statuses.Held is = absurd (true≢false (sym is))
 runs_then statuses.Suspended is = absurd (true≢false (sym is))
 runs_then statuses.Completed is = absurd (true≢false (sym is))
 runs_then statuses.Aborted is = absurd (true≢false (sym is))
-
-waits_open : (status : Status) → is_waiting status ≡ true → has_ended status ≡ false
-waits_open statuses.Waiting is = refl
-waits_open statuses.Running is = refl
-waits_open statuses.Held is = refl
-waits_open statuses.Suspended is = refl
-waits_open statuses.Completed is = absurd (true≢false (sym is))
-waits_open statuses.Aborted is = absurd (true≢false (sym is))
 
 -- the entry that runs
 record Runs (queue : QueueState) (number : ℕ) : Type 0 where
@@ -97,7 +90,7 @@ ran-before queue works number whole runs =
 
 -- it waited, and begins
 begun-waiting : (queue new : QueueState) (number : ℕ) → Waited queue new number → TakesIt queue new number
-begun-waiting queue new number it = record { begins = it.begins; is_open = waits_open it.begins.entry.status it.waited }
+begun-waiting queue new number it = record { begins = it.begins; is_open = excluded is_waiting has_ended refl it.begins.entry.status it.waited }
 
 -- no entry begins
 begun-none : (queue new : QueueState) → rows.begin queue ≡ (new, None) → new ≡ queue
@@ -398,7 +391,12 @@ abort-running world whole n = at (rows.entry_runs n world.queue) refl
         (now true is ∙ (λ j. standing_of (of.given_is j) (option_map aborted_entry (of.entry_is j)) (option_map without_job (of.work_is j)))) idle
 
 pub operator-becomes : (command : OperatorCommand) (world : World) → IsWholeWorld world → Becomes None world (operated command world)
-operator-becomes operators.Pause world whole = record { queue = whole.numbers.queue_is; on_engines = whole.on_engines; each = λ n. Stays refl idle }
-operator-becomes operators.Continue world whole = record { queue = whole.numbers.queue_is; on_engines = whole.on_engines; each = λ n. Stays refl idle }
+operator-becomes operators.Pause world whole = record { queue = whole.numbers.queue_is; on_engines = whole.on_engines; count = refl; each = λ n. Stays refl idle }
+operator-becomes operators.Continue world whole = record { queue = whole.numbers.queue_is; on_engines = whole.on_engines; count = refl; each = λ n. Stays refl idle }
 operator-becomes operators.AbortRunning world whole =
-    record { queue = queue-aborted world whole.numbers.queue_is; on_engines = on_engines-free world whole.on_engines; each = abort-running world whole }
+    record {
+      queue = queue-aborted world whole.numbers.queue_is;
+      on_engines = on_engines-free world whole.on_engines;
+      count = length-aborted_running world;
+      each = abort-running world whole;
+    }

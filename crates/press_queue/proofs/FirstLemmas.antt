@@ -7,6 +7,7 @@ use Rattle.press_queue.specs.declared.entry.Entry.{Entry}
 use Rattle.press_queue.specs.Entries.{count_in_flight, first_to_go_on, first_waiting}
 use Rattle.press_queue.specs.Rows.{most_in_flight, next_to_run}
 use Rattle.press_queue.specs.Status.{is_waiting}
+use Rattle.press_queue.proofs.StatusLemmas.{and-first}
 
 -- a key that is found among others differs from each that differs from all of them
 pub key_differs : {X : Type 0} (number n : ℕ) (es : List (ℕ × X)) → AllByRecursion (λ y. nat_eq number y ≡ false) (keys_of es) → is_some (lookup (nat_eq n) es) ≡ true
@@ -30,10 +31,6 @@ first_is_numbered p (y ∷ es) x distinct found = at_head (p y) refl (λ below. 
         let later = below (grind (arith, rules, is, found)) in
         let differs = key_differs y.0 x.0 es distinct.0 (ap is_some later.1) in
         (later.0, rw differs later.1)
-
-and-first : (b c : Bool) → b && c ≡ true → b ≡ true
-and-first true c h = refl
-and-first false c h = h
 
 -- the entry that comes next waits, and is the one of its number
 pub next_is_numbered : (entries : List (ℕ × Entry)) (x : ℕ × Entry) → IsDistinct nat_eq (keys_of entries) → next_to_run entries ≡ Some x

@@ -1,10 +1,13 @@
 -- What is true of every queue stays true: a lemma for each row.
-use Rattle.std.proofs.Common.{◌≡◌, ◌≤◌, ◌<◌, ℕ, ℤ, ◌+◌, Bool, true, false, ◌&&◌, ◌||◌, not, if◌then◌else◌, nat_eq, nat_le}
-use Rattle.std.proofs.Common.{Option, Some, None, Result, Ok, Err, List, insert, length, refl, sym, ap, subst, arith, rules}
+use Rattle.std.proofs.Common.{◌≡◌, ◌≤◌, ◌<◌, ℕ, ℤ, ◌+◌, Bool, true, false, ◌&&◌, ◌||◌, not, if◌then◌else◌, nat_eq, nat_le, true≢false}
+use Rattle.std.proofs.Common.{Option, Some, None, Result, Ok, Err, List, insert, length, ok_or, option_map, refl, sym, ap, subst, ◌∙◌, arith, rules}
+use Rattle.std.specs.Cmp.Derive.{both_true}
 use Rattle.std.specs.List.{IsDistinct}
 use Rattle.std.specs.Map.{keys_of}
 use Rattle.std.proofs.lemmas.Map.{keys-set_value, length-set_value}
 use Rattle.std.proofs.lemmas.Map.Made.{IsDistinct-keys_filter}
+use Rattle.press_queue.specs.declared.command.EntryChange.{EntryChange}
+use Rattle.press_queue.specs.declared.command.EntryChange.TheVariants as changes
 use Rattle.press_queue.specs.declared.command.EntryCommand.{EntryCommand}
 use Rattle.press_queue.specs.declared.command.EntryCommand.TheVariants as commands
 use Rattle.press_queue.specs.declared.entry.Entry.{Entry}
@@ -14,18 +17,20 @@ use Rattle.press_queue.specs.declared.status.End.{End}
 use Rattle.press_queue.specs.declared.status.End.TheVariants as ends
 use Rattle.press_queue.specs.declared.status.Status.{Status}
 use Rattle.press_queue.specs.declared.status.Status.TheVariants as statuses
-use Rattle.press_queue.specs.Entries.{entry_numbered, with_entry, without_entry, count_in_flight, place_of, first_to_go_on, first_waiting}
+use Rattle.press_queue.specs.Entries.{changed, entry_numbered, with_entry, without_entry, count_in_flight, place_of, first_to_go_on, first_waiting}
 use Rattle.press_queue.specs.EveryQueue.{IsQueue, are_up_to, count_resting, is_resting}
 use Rattle.press_queue.specs.Legal.{is_legal}
 use Rattle.press_queue.specs.Priority.{priority_of, position_within}
 use Rattle.press_queue.specs.Rows as rows
 use Rattle.press_queue.specs.State.{QueueState, empty_queue}
 use Rattle.press_queue.specs.Status.{is_running, is_waiting, is_in_flight, has_ended, new_entry}
-use Rattle.press_queue.proofs.CountLemmas.{one, one_le, count_of, count_le, count-with_entry, count-with_entry_le, count-without}
+use Rattle.press_queue.proofs.CommandLemmas.{Commanded, commanded_is}
+use Rattle.press_queue.proofs.CountLemmas.{one_le, count_of, count_le, count-with_entry, count-with_entry_le, count-without, one}
 use Rattle.press_queue.proofs.CountLemmas.{count-insert, count-filter, length-without, length_insert, length-filter_le}
 use Rattle.press_queue.proofs.FirstLemmas.{first_is_numbered}
 use Rattle.press_queue.proofs.KeyLemmas.{distinct_insert, distinct_without, absent_without}
 use Rattle.press_queue.proofs.NumberLemmas.{up_to_with_entry, up_to_without, up_to_filter, up_to_insert, up_to_put_next, number_up_to, absent_above}
+use Rattle.press_queue.proofs.StatusLemmas.{and-first, and-second, implied}
 
 queue_from : (queue : QueueState) → IsDistinct nat_eq (keys_of queue.entries) → are_up_to queue.last queue.entries ≡ true
     → length queue.entries ≤ rows.most_entries → count_of is_in_flight queue.entries ≤ rows.most_in_flight → count_resting queue.entries < rows.most_in_flight → IsQueue queue
@@ -67,20 +72,26 @@ flush-keeps queue kept =
     (omega (arith, count-filter is_in_flight runs queue.entries, kept.in_flight))
     (omega (arith, count-filter is_resting runs queue.entries, kept.resting))
 
--- Another entry under a number, which is in flight, or rests, only where the one before did.
+-- Another entry under a number, which is in flight only where the one before was.
 with_entry-keeps : (number : ℕ) (old new : Entry) (queue : QueueState) → entry_numbered number queue.entries ≡ Some old
-    → (is_in_flight new ≡ true → is_in_flight old ≡ true) → (is_resting new ≡ true → is_resting old ≡ true)
+    → (is_in_flight new ≡ true → is_in_flight old ≡ true) → count_resting (with_entry number new queue.entries) < rows.most_in_flight
     → IsQueue queue → IsQueue (rows.with_entries (with_entry number new queue.entries) queue)
-with_entry-keeps number old new queue there flies_on rests_on kept =
+with_entry-keeps number old new queue there flies_on resting kept =
     queue_from (rows.with_entries (with_entry number new queue.entries) queue)
     (subst (λ ks. IsDistinct nat_eq ks) (sym (keys-set_value (nat_eq number) queue.entries new)) kept.distinct)
     (up_to_with_entry queue.last number new queue.entries kept.given)
     (omega (arith, length-set_value (nat_eq number) queue.entries new, kept.listed))
     (omega (arith, count-with_entry is_in_flight number old new queue.entries there, one_le (is_in_flight new) (is_in_flight old) flies_on, kept.in_flight))
-    (omega (arith, count-with_entry is_resting number old new queue.entries there, one_le (is_resting new) (is_resting old) rests_on, kept.resting))
+    resting
+
+-- it rests only where the one before did
+rests-as_before : (number : ℕ) (old new : Entry) (queue : QueueState) → entry_numbered number queue.entries ≡ Some old
+    → (is_resting new ≡ true → is_resting old ≡ true) → IsQueue queue → count_resting (with_entry number new queue.entries) < rows.most_in_flight
+rests-as_before number old new queue there rests_on kept =
+    omega (arith, count-with_entry is_resting number old new queue.entries there, one_le (is_resting new) (is_resting old) rests_on, kept.resting)
 
 -- An entry that is put back at any index, with the status that it had.
-pub put_back-keeps : (index number priority : ℕ) (old : Entry) (queue : QueueState) → entry_numbered number queue.entries ≡ Some old
+put_back-keeps : (index number priority : ℕ) (old : Entry) (queue : QueueState) → entry_numbered number queue.entries ≡ Some old
     → IsQueue queue → IsQueue (rows.with_entries (insert (without_entry number queue.entries) index (number, record old { priority = priority })) queue)
 put_back-keeps index number priority old queue there kept =
     let new : Entry = record old { priority = priority } in
@@ -92,103 +103,17 @@ put_back-keeps index number priority old queue there kept =
     (omega (arith, count-insert is_in_flight index (number, new) others, count-without is_in_flight number old queue.entries there, kept.in_flight))
     (omega (arith, count-insert is_resting index (number, new) others, count-without is_resting number old queue.entries there, kept.resting))
 
--- A command to one entry keeps it where it does so for an entry at which it is legal.
-at_entry-keeps : (command : EntryCommand) (number : ℕ) (queue : QueueState) (row : Entry → rows.QueueAnswer (Unit {0})) → IsQueue queue
-    → ((entry : Entry) → entry_numbered number queue.entries ≡ Some entry → is_legal command entry.status ≡ true → IsQueue (row entry).0)
-    → IsQueue (rows.at_entry (rows.legal_entry command number queue.entries) queue row).0
-at_entry-keeps command number queue row kept row_keeps = at_found (entry_numbered number queue.entries) refl
-  where
-    at_legal : (entry : Entry) → entry_numbered number queue.entries ≡ Some entry → (legal : Bool) → is_legal command entry.status ≡ legal
-        → IsQueue (rows.at_entry (if legal then Ok entry else Err refusals.WrongStatus) queue row).0
-    at_legal entry there true legal = row_keeps entry there legal
-    at_legal entry there false legal = kept
-
-    at_found : (found : Option Entry) → entry_numbered number queue.entries ≡ found → IsQueue (rows.at_entry (rows.legal_at command found) queue row).0
-    at_found None there = kept
-    at_found (Some entry) there = at_legal entry there (is_legal command entry.status) refl
-
--- what such a command leaves of a queue that it keeps, at an entry at which it is legal
-pub kept_at_entry : (legal : Result Entry Refusal) (queue : QueueState) (row : Entry → rows.QueueAnswer (Unit {0})) (entry : Entry) → Ok entry ≡ legal
-    → IsQueue (rows.at_entry legal queue row).0 → IsQueue (row entry).0
-kept_at_entry legal queue row entry is kept = subst (λ l. IsQueue (rows.at_entry l queue row).0) (sym is) kept
-
--- the entry of a status that waits, is held or suspended rests, where it began
-abbrev rests_at : Status → Bool
-rests_at status = not (has_ended status) && not (is_running status)
-
-flies_from : (begun : Bool) (s t : Status) → rests_at s ≡ true → begun && not (has_ended t) ≡ true → begun && not (has_ended s) ≡ true
-flies_from true s t rests h = open_first (not (has_ended s)) (not (is_running s)) rests
-  where
-    open_first : (b c : Bool) → b && c ≡ true → b ≡ true
-    open_first true c h = refl
-    open_first false c h = h
-flies_from false s t rests h = absurd (cc)
-
-rests_from : (begun : Bool) (s t : Status) → rests_at s ≡ true → rests_at t ≡ true → (begun && not (has_ended t)) && not (is_running t) ≡ true
-    → (begun && not (has_ended s)) && not (is_running s) ≡ true
-rests_from true s t rests rests_too h = rests
-rests_from false s t rests rests_too h = absurd (cc)
-
-hold_rests : (s : Status) → is_legal commands.Hold s ≡ true → rests_at s ≡ true
-hold_rests statuses.Waiting legal = refl
-hold_rests statuses.Held legal = absurd (cc)
-hold_rests statuses.Running legal = absurd (cc)
-hold_rests statuses.Suspended legal = absurd (cc)
-hold_rests statuses.Completed legal = absurd (cc)
-hold_rests statuses.Aborted legal = absurd (cc)
-
-resume_rests : (s : Status) → is_legal commands.Resume s ≡ true → rests_at s ≡ true
-resume_rests statuses.Waiting legal = absurd (cc)
-resume_rests statuses.Held legal = refl
-resume_rests statuses.Running legal = absurd (cc)
-resume_rests statuses.Suspended legal = refl
-resume_rests statuses.Completed legal = absurd (cc)
-resume_rests statuses.Aborted legal = absurd (cc)
-
-suspend_runs : (s : Status) → is_legal commands.Suspend s ≡ true → s ≡ statuses.Running
-suspend_runs statuses.Waiting legal = absurd (cc)
-suspend_runs statuses.Held legal = absurd (cc)
-suspend_runs statuses.Running legal = refl
-suspend_runs statuses.Suspended legal = absurd (cc)
-suspend_runs statuses.Completed legal = absurd (cc)
-suspend_runs statuses.Aborted legal = absurd (cc)
-
-pub hold-keeps : (number : ℕ) (queue : QueueState) → IsQueue queue → IsQueue (rows.hold number queue).0
-hold-keeps number queue kept =
-    at_entry-keeps commands.Hold number queue (λ entry. rows.accepted (rows.set_status number statuses.Held entry queue)) kept
-    (λ entry there legal. with_entry-keeps number entry (record entry { status = statuses.Held }) queue there
-    (flies_from entry.begun entry.status statuses.Held (hold_rests entry.status legal))
-    (rests_from entry.begun entry.status statuses.Held (hold_rests entry.status legal) refl) kept)
-
-pub resume-keeps : (number : ℕ) (queue : QueueState) → IsQueue queue → IsQueue (rows.resume number queue).0
-resume-keeps number queue kept =
-    at_entry-keeps commands.Resume number queue (λ entry. rows.accepted (rows.set_status number statuses.Waiting entry queue)) kept
-    (λ entry there legal. with_entry-keeps number entry (record entry { status = statuses.Waiting }) queue there
-    (flies_from entry.begun entry.status statuses.Waiting (resume_rests entry.status legal))
-    (rests_from entry.begun entry.status statuses.Waiting (resume_rests entry.status legal) refl) kept)
-
 -- an entry that has ended is not in flight, and does not rest
 ended-keeps : (number : ℕ) (entry : Entry) (status : Status) (queue : QueueState) → entry_numbered number queue.entries ≡ Some entry
     → has_ended status ≡ true → IsQueue queue → IsQueue (rows.set_status number status entry queue)
 ended-keeps number entry status queue there ended kept =
-    with_entry-keeps number entry (record entry { status = status }) queue there
-    (λ h. absurd (flies_not entry.begun (has_ended status) ended h))
-    (λ h. absurd (rests_not entry.begun (has_ended status) (not (is_running status)) ended h)) kept
+    let new : Entry = record entry { status = status } in
+    with_entry-keeps number entry new queue there (λ h. absurd (flies_not entry.begun (has_ended status) ended h))
+    (rests-as_before number entry new queue there (λ h. absurd (flies_not entry.begun (has_ended status) ended (and-first _ _ h))) kept) kept
   where
     flies_not : (begun ended : Bool) → ended ≡ true → begun && not ended ≡ true → ⊥
-    flies_not true true is h = cc
-    flies_not false true is h = cc
+    flies_not begun true is h = absurd (true≢false (sym (and-second begun false h)))
     flies_not begun false is h = cc
-
-    rests_not : (begun ended other : Bool) → ended ≡ true → (begun && not ended) && other ≡ true → ⊥
-    rests_not true true other is h = cc
-    rests_not false true other is h = cc
-    rests_not begun false other is h = cc
-
-pub abort-keeps : (number : ℕ) (queue : QueueState) → IsQueue queue → IsQueue (rows.abort number queue).0
-abort-keeps number queue kept =
-    at_entry-keeps commands.Abort number queue (λ entry. rows.accepted (rows.set_status number statuses.Aborted entry queue)) kept
-    (λ entry there legal. ended-keeps number entry statuses.Aborted queue there refl kept)
 
 pub finish_entry-keeps : (number : ℕ) (end : End) (queue : QueueState) → IsQueue queue → IsQueue (rows.finish_entry number end queue)
 finish_entry-keeps number end queue kept = at_found (entry_numbered number queue.entries) refl end
@@ -198,74 +123,90 @@ finish_entry-keeps number end queue kept = at_found (entry_numbered number queue
     at_found (Some entry) there ends.Completed = ended-keeps number entry statuses.Completed queue there refl kept
     at_found (Some entry) there ends.Aborted = ended-keeps number entry statuses.Aborted queue there refl kept
 
--- A running entry that is suspended is in flight as before, and of those fewer are than may be.
-pub suspended-keeps : (number : ℕ) (entry : Entry) (queue : QueueState) → entry_numbered number queue.entries ≡ Some entry → is_legal commands.Suspend entry.status ≡ true
-    → count_in_flight queue.entries < rows.most_in_flight → IsQueue queue → IsQueue (rows.set_status number statuses.Suspended entry queue)
-suspended-keeps number entry queue there legal room kept =
-    let new : Entry = record entry { status = statuses.Suspended } in
-    let after = with_entry number new queue.entries in
-    let same : is_in_flight entry ≡ is_in_flight new = ap (λ s. entry.begun && not (has_ended s)) (suspend_runs entry.status legal) in
-    let flight : count_of is_in_flight after + one (is_in_flight entry) ≡ count_of is_in_flight queue.entries + one (is_in_flight new) =
-    count-with_entry is_in_flight number entry new queue.entries there in
-    queue_from (rows.set_status number statuses.Suspended entry queue)
-    (subst (λ ks. IsDistinct nat_eq ks) (sym (keys-set_value (nat_eq number) queue.entries new)) kept.distinct)
-    (up_to_with_entry queue.last number new queue.entries kept.given)
-    (omega (arith, length-set_value (nat_eq number) queue.entries new, kept.listed))
-    (omega (arith, flight, ap one same, kept.in_flight))
-    (omega (arith, count_le is_resting is_in_flight (λ e h. rests_in_flight (is_in_flight e) (not (is_running e.status)) h) after, flight, ap one same, room))
-  where
-    rests_in_flight : (b c : Bool) → b && c ≡ true → b ≡ true
-    rests_in_flight true c h = refl
-    rests_in_flight false c h = h
+-- ---- commands to one entry
 
-pub suspend-keeps : (number : ℕ) (queue : QueueState) → IsQueue queue → IsQueue (rows.suspend number queue).0
-suspend-keeps number queue kept =
-    at_entry-keeps commands.Suspend number queue
-    (λ entry. if nat_le rows.most_in_flight (count_in_flight queue.entries) then rows.refused queue refusals.InFlightFull
-    else rows.accepted (rows.set_status number statuses.Suspended entry queue)) kept
-    (λ entry there legal. at_room entry there legal (nat_le rows.most_in_flight (count_in_flight queue.entries)) refl)
-  where
-    at_room : (entry : Entry) → entry_numbered number queue.entries ≡ Some entry → is_legal commands.Suspend entry.status ≡ true
-        → (full : Bool) → nat_le rows.most_in_flight (count_in_flight queue.entries) ≡ full
-        → IsQueue (if full then rows.refused queue refusals.InFlightFull else rows.accepted (rows.set_status number statuses.Suspended entry queue)).0
-    at_room entry there legal true is = kept
-    at_room entry there legal false is = suspended-keeps number entry queue there legal (grind (arith, rules, is)) kept
+-- an entry in this status is in flight without running, where it began
+abbrev rests_at : Status → Bool
+rests_at status = not (has_ended status) && not (is_running status)
 
-pub remove-keeps : (number : ℕ) (queue : QueueState) → IsQueue queue → IsQueue (rows.remove number queue).0
-remove-keeps number queue kept =
-    at_entry-keeps commands.Remove number queue (λ entry. rows.accepted (rows.with_entries (without_entry number queue.entries) queue)) kept
-    (λ entry there legal. queue_from (rows.with_entries (without_entry number queue.entries) queue)
+-- The status that an entry gets ends it; or it rested before; or it had not ended, and fewer are in flight than may be.
+data MayGet (queue : QueueState) (found status : Status) : Type 0 where
+  Ends : has_ended status ≡ true → MayGet queue found status
+  Rested : rests_at found ≡ true → MayGet queue found status
+  HasRoom : not (has_ended found) ≡ true → count_in_flight queue.entries < rows.most_in_flight → MayGet queue found status
+
+-- so it is of what a command makes of an entry, where that is another status
+abbrev MayMake : QueueState → Status → Result EntryChange Refusal → Type 0
+MayMake queue found (Ok (changes.Status status)) = MayGet queue found status
+MayMake queue found other = Unit {0}
+
+-- a line for each command
+may_make : (command : EntryCommand) (queue : QueueState) (found : Status) → is_legal command found ≡ true → MayMake queue found (rows.change_of command queue)
+may_make commands.Hold queue found legal = Rested (implied (is_legal commands.Hold) rests_at refl found legal)
+may_make commands.Resume queue found legal = Rested (implied (is_legal commands.Resume) rests_at refl found legal)
+may_make commands.Suspend queue found legal = at (nat_le rows.most_in_flight (count_in_flight queue.entries)) refl
+  where
+    at : (full : Bool) → nat_le rows.most_in_flight (count_in_flight queue.entries) ≡ full
+        → MayMake queue found (if full then Err refusals.InFlightFull else Ok (changes.Status statuses.Suspended))
+    at true is = tt
+    at false is = HasRoom (implied (is_legal commands.Suspend) (λ status. not (has_ended status)) refl found legal) (grind (arith, rules, is))
+may_make commands.Abort queue found legal = Ends refl
+may_make commands.Remove queue found legal = tt
+may_make (commands.SetPriority priority) queue found legal = at (priority_of priority)
+  where
+    at : (o : Option ℕ) → MayMake queue found (ok_or (option_map (λ given. changes.Priority given) o) refusals.BadPriority)
+    at None = tt
+    at (Some given) = tt
+may_make (commands.SetPosition position) queue found legal = at (position_within (length queue.entries) position)
+  where
+    at : (o : Option ℕ) → MayMake queue found (ok_or (option_map (λ index. changes.Index index) o) refusals.BadPosition)
+    at None = tt
+    at (Some index) = tt
+
+status-keeps : (number : ℕ) (entry : Entry) (status : Status) (queue : QueueState) → entry_numbered number queue.entries ≡ Some entry
+    → MayGet queue entry.status status → IsQueue queue → IsQueue (rows.set_status number status entry queue)
+status-keeps number entry status queue there (Ends ended) kept = ended-keeps number entry status queue there ended kept
+status-keeps number entry status queue there (Rested rested) kept =
+    let new : Entry = record entry { status = status } in
+    with_entry-keeps number entry new queue there (λ h. and-first _ _ (rests_from entry.begun (and-first entry.begun _ h)))
+    (rests-as_before number entry new queue there (λ h. rests_from entry.begun (and-first entry.begun _ (and-first _ _ h))) kept) kept
+  where
+    rests_from : (begun : Bool) → begun ≡ true → (begun && not (has_ended entry.status)) && not (is_running entry.status) ≡ true
+    rests_from begun is = ap (λ b. (b && not (has_ended entry.status)) && not (is_running entry.status)) is ∙ rested
+status-keeps number entry status queue there (HasRoom flew room) kept =
+    let new : Entry = record entry { status = status } in
+    let flies : is_in_flight new ≡ true → is_in_flight entry ≡ true = λ h. both_true (and-first entry.begun _ h) flew in
+    with_entry-keeps number entry new queue there flies
+    (omega (
+      arith,
+      count_le is_resting is_in_flight (λ e h. and-first (is_in_flight e) (not (is_running e.status)) h) (with_entry number new queue.entries),
+      count-with_entry is_in_flight number entry new queue.entries there,
+      one_le (is_in_flight new) (is_in_flight entry) flies,
+      room,
+    )) kept
+
+change-keeps : (number : ℕ) (entry : Entry) (queue : QueueState) (change : EntryChange) → entry_numbered number queue.entries ≡ Some entry
+    → MayMake queue entry.status (Ok change) → IsQueue queue → IsQueue (rows.with_entries (changed change number entry queue.entries) queue)
+change-keeps number entry queue (changes.Status status) there may kept = status-keeps number entry status queue there may kept
+change-keeps number entry queue (changes.Priority priority) there may kept =
+    put_back-keeps (place_of priority (without_entry number queue.entries)) number priority entry queue there kept
+change-keeps number entry queue (changes.Index index) there may kept = put_back-keeps index number entry.priority entry queue there kept
+change-keeps number entry queue changes.Removal there may kept =
+    queue_from (rows.with_entries (without_entry number queue.entries) queue)
     (distinct_without number queue.entries kept.distinct) (up_to_without queue.last number queue.entries kept.given)
     (omega (arith, length-without number entry queue.entries there, kept.listed))
     (omega (arith, count-without is_in_flight number entry queue.entries there, kept.in_flight))
-    (omega (arith, count-without is_resting number entry queue.entries there, kept.resting)))
+    (omega (arith, count-without is_resting number entry queue.entries there, kept.resting))
 
-pub set_priority-keeps : (number : ℕ) (priority : ℤ) (queue : QueueState) → IsQueue queue → IsQueue (rows.set_priority number priority queue).0
-set_priority-keeps number priority queue kept =
-    at_entry-keeps commands.SetPriority number queue (λ entry. rows.reprioritized number (priority_of priority) entry queue) kept
-    (λ entry there legal. at_priority entry there (priority_of priority))
+pub commanded-keeps : (command : EntryCommand) (number : ℕ) (queue : QueueState) → IsQueue queue → IsQueue (rows.commanded command number queue).0
+commanded-keeps command number queue kept = by (rows.commanded command number queue) (commanded_is command number queue)
   where
-    at_priority : (entry : Entry) → entry_numbered number queue.entries ≡ Some entry → (p : Option ℕ) → IsQueue (rows.reprioritized number p entry queue).0
-    at_priority entry there None = kept
-    at_priority entry there (Some p) = put_back-keeps (place_of p (without_entry number queue.entries)) number p entry queue there kept
-
-pub set_position-keeps : (number : ℕ) (position : ℤ) (queue : QueueState) → IsQueue queue → IsQueue (rows.set_position number position queue).0
-set_position-keeps number position queue kept =
-    at_entry-keeps commands.SetPosition number queue (λ entry. rows.repositioned number (position_within (length queue.entries) position) entry queue) kept
-    (λ entry there legal. at_index entry there (position_within (length queue.entries) position))
-  where
-    at_index : (entry : Entry) → entry_numbered number queue.entries ≡ Some entry → (i : Option ℕ) → IsQueue (rows.repositioned number i entry queue).0
-    at_index entry there None = kept
-    at_index entry there (Some index) = put_back-keeps index number entry.priority entry queue there kept
-
-waits_in_flight : (s : Status) (begun : Bool) → is_waiting s && begun ≡ true → begun && not (has_ended s) ≡ true
-waits_in_flight statuses.Waiting true h = refl
-waits_in_flight statuses.Waiting false h = absurd (cc)
-waits_in_flight statuses.Held begun h = absurd (cc)
-waits_in_flight statuses.Running begun h = absurd (cc)
-waits_in_flight statuses.Suspended begun h = absurd (cc)
-waits_in_flight statuses.Completed begun h = absurd (cc)
-waits_in_flight statuses.Aborted begun h = absurd (cc)
+    by : (answer : rows.QueueAnswer (Unit {0})) → Commanded command number queue answer → IsQueue answer.0
+    by (new, Err refusal) same = subst IsQueue (sym same) kept
+    by (new, Ok done) it =
+        subst IsQueue (sym it.is)
+        (change-keeps number it.entry queue it.change it.there
+        (subst (MayMake queue it.entry.status) it.makes (may_make command queue it.entry.status it.legal)) kept)
 
 -- The entry that comes next runs: where the most are in flight it was in flight before, and else there is room for it.
 pub begun-keeps : (e : ℕ × Entry) (queue : QueueState) → rows.next_to_run queue.entries ≡ Some e → IsQueue queue
@@ -284,11 +225,15 @@ begun-keeps e queue next kept =
     after : List (ℕ × Entry)
     after = with_entry e.0 new queue.entries
 
+    in_flight : (status : Status) (begun : Bool) → is_waiting status && begun ≡ true → begun && not (has_ended status) ≡ true
+    in_flight status true h = implied (λ s. is_waiting s && true) (λ s. not (has_ended s)) refl status h
+    in_flight status false h = absurd (true≢false (sym (and-second (is_waiting status) false h)))
+
     at_room : (full : Bool) → nat_le rows.most_in_flight (count_in_flight queue.entries) ≡ full
         → (if full then first_to_go_on queue.entries else first_waiting queue.entries) ≡ Some e → count_of is_in_flight after ≤ rows.most_in_flight
     at_room true is found =
         let there = first_is_numbered (λ y. is_waiting y.1.status && y.1.begun) queue.entries e kept.distinct found in
-        let flew : is_in_flight e.1 ≡ true = waits_in_flight e.1.status e.1.begun there.0 in
+        let flew : is_in_flight e.1 ≡ true = in_flight e.1.status e.1.begun there.0 in
         omega (arith, count-with_entry is_in_flight e.0 e.1 new queue.entries there.1, ap one flew, kept.in_flight)
     at_room false is found =
         let room : count_in_flight queue.entries < rows.most_in_flight = grind (arith, rules, is) in

@@ -1,7 +1,9 @@
 -- Entries under their numbers, in the order of the queue.
-use Rattle.std.specs.Prelude.{ℕ, ◌&&◌, List, Option, nat_eq, nat_lt, length, filter, find, insert}
+use Rattle.std.specs.Prelude.{ℕ, Bool, true, ◌&&◌, List, Option, nat_eq, nat_lt, length, filter, find, insert}
 use Rattle.std.specs.List.{position_or_len}
 use Rattle.std.specs.Map.{lookup, remove_entry, set_value}
+use Rattle.press_queue.specs.declared.command.EntryChange.{EntryChange}
+use Rattle.press_queue.specs.declared.command.EntryChange.TheVariants as changes
 use Rattle.press_queue.specs.declared.entry.Entry.{Entry}
 use Rattle.press_queue.specs.declared.status.Status.{Status}
 use Rattle.press_queue.specs.Status.{is_waiting, is_running, is_in_flight}
@@ -37,6 +39,18 @@ put_again number entry entries = put number entry (without_entry number entries)
 -- the entries, with this one at the index
 abbrev pub moved_to : ℕ → ℕ → Entry → List (ℕ × Entry) → List (ℕ × Entry)
 moved_to index number entry entries = insert (without_entry number entries) index (number, entry)
+
+-- the entries, where a command made this of one
+abbrev pub changed : EntryChange → ℕ → Entry → List (ℕ × Entry) → List (ℕ × Entry)
+changed (changes.Status status) number entry entries = with_status number status entry entries
+changed (changes.Priority priority) number entry entries = put_again number (record entry { priority = priority }) entries
+changed (changes.Index index) number entry entries = moved_to index number entry entries
+changed changes.Removal number entry entries = without_entry number entries
+
+-- whether an index that it names is one of a list of this length
+abbrev pub is_within : EntryChange → ℕ → Bool
+is_within (changes.Index index) len = nat_lt index len
+is_within other len = true
 
 -- the first entry that waits
 abbrev pub first_waiting : List (ℕ × Entry) → Option (ℕ × Entry)

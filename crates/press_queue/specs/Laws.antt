@@ -1,5 +1,6 @@
 -- The law of queues, as a statement: what is true of every queue stays true.
 use Rattle.std.specs.Prelude.{ℕ, ℤ}
+use Rattle.press_queue.specs.declared.command.EntryCommand.{EntryCommand}
 use Rattle.press_queue.specs.declared.status.End.{End}
 use Rattle.press_queue.specs.EveryQueue.{IsQueue}
 use Rattle.press_queue.specs.Rows as rows
@@ -13,6 +14,7 @@ Keeps row = (queue : QueueState) → IsQueue queue → IsQueue (row queue)
 pub record EachRowKeepsTheQueue : Type 0 where
   pub new : IsQueue empty_queue
   pub submit : (priority : ℤ) → Keeps (λ queue. (rows.submit priority queue).0)
+  pub command : (command : EntryCommand) (number : ℕ) → Keeps (λ queue. (rows.commanded command number queue).0)
   pub hold : (number : ℕ) → Keeps (λ queue. (rows.hold number queue).0)
   pub resume : (number : ℕ) → Keeps (λ queue. (rows.resume number queue).0)
   pub suspend : (number : ℕ) → Keeps (λ queue. (rows.suspend number queue).0)

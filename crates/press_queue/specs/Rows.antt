@@ -1,8 +1,10 @@
 -- What each command does to the queue, and what it answers (JDF 1.5, the queue commands; this profile).
 use Rattle.std.specs.Prelude.{ℕ, ◌+◌, ℤ, Bool, true, false, ◌&&◌, ◌||◌, if◌then◌else◌, nat_eq, nat_le, List, length, Option, Some}
-use Rattle.std.specs.Prelude.{None, option_map, Result, Ok, Err, is_some}
+use Rattle.std.specs.Prelude.{None, option_map, Result, Ok, Err, is_some, ok_or}
 use Rattle.std.specs.Option.{option_map_or}
 use Rattle.press_units.specs.Limits.{greatest_of_64_bits}
+use Rattle.press_queue.specs.declared.command.EntryChange.{EntryChange}
+use Rattle.press_queue.specs.declared.command.EntryChange.TheVariants as changes
 use Rattle.press_queue.specs.declared.command.EntryCommand.{EntryCommand}
 use Rattle.press_queue.specs.declared.command.EntryCommand.TheVariants as commands
 use Rattle.press_queue.specs.declared.entry.Entry.{Entry}
@@ -13,7 +15,7 @@ use Rattle.press_queue.specs.declared.status.Status.TheVariants as statuses
 use Rattle.press_queue.specs.declared.status.End.{End}
 use Rattle.press_queue.specs.declared.status.QueueStatus.{QueueStatus}
 use Rattle.press_queue.specs.declared.status.QueueStatus.TheVariants as standings
-use Rattle.press_queue.specs.Entries.{entry_numbered, with_entry, with_status, without_entry, put, put_again, moved_to}
+use Rattle.press_queue.specs.Entries.{entry_numbered, with_entry, with_status, changed, put}
 use Rattle.press_queue.specs.Entries.{first_waiting, first_to_go_on, first_running, running_ones, count_in_flight}
 use Rattle.press_queue.specs.Legal.{is_legal}
 use Rattle.press_queue.specs.Priority.{priority_of, position_within}
@@ -79,69 +81,67 @@ legal_at command (Some entry) = if is_legal command entry.status then Ok entry e
 abbrev pub legal_entry : EntryCommand → ℕ → List (ℕ × Entry) → Result Entry Refusal
 legal_entry command number entries = legal_at command (entry_numbered number entries)
 
--- what follows for that entry
-abbrev pub at_entry :
-    Result Entry Refusal → QueueState → (Entry → QueueAnswer (Unit {0})) → QueueAnswer (Unit {0})
-at_entry (Err refusal) queue row = refused queue refusal
-at_entry (Ok entry) queue row = row entry
-
 -- the entry gets another status
 abbrev pub set_status : ℕ → Status → Entry → QueueState → QueueState
 set_status number status entry queue =
     with_entries (with_status number status entry queue.entries) queue
 
+-- What each command makes of an entry at which it is legal: the entry is held; it waits; it is suspended, 27 where the most entries are
+-- in flight; it is aborted; it leaves the list; it gets a priority and is put as a new one, 25 a bad priority; it moves to an index and
+-- keeps its priority, 26 a bad position.
+abbrev pub change_of : EntryCommand → QueueState → Result EntryChange Refusal
+change_of commands.Hold queue = Ok (changes.Status statuses.Held)
+change_of commands.Resume queue = Ok (changes.Status statuses.Waiting)
+change_of commands.Suspend queue =
+    if nat_le most_in_flight (count_in_flight queue.entries) then Err refusals.InFlightFull else Ok (changes.Status statuses.Suspended)
+change_of commands.Abort queue = Ok (changes.Status statuses.Aborted)
+change_of commands.Remove queue = Ok changes.Removal
+change_of (commands.SetPriority priority) queue =
+    ok_or (option_map (λ given. changes.Priority given) (priority_of priority)) refusals.BadPriority
+change_of (commands.SetPosition position) queue =
+    ok_or (option_map (λ index. changes.Index index) (position_within (length queue.entries) position)) refusals.BadPosition
+
+-- the queue, where a command makes this of the entry; a refusal changes nothing
+abbrev pub at_change : ℕ → Entry → QueueState → Result EntryChange Refusal → QueueAnswer (Unit {0})
+at_change number entry queue (Err refusal) = refused queue refusal
+at_change number entry queue (Ok change) = accepted (with_entries (changed change number entry queue.entries) queue)
+
+-- the same, by the entry that the command names, or why it is refused
+abbrev pub at_entry : EntryCommand → ℕ → QueueState → Result Entry Refusal → QueueAnswer (Unit {0})
+at_entry command number queue (Err refusal) = refused queue refusal
+at_entry command number queue (Ok entry) = at_change number entry queue (change_of command queue)
+
+-- A command to one entry: 21, 22, and then what it makes of the entry.
+abbrev pub commanded : EntryCommand → ℕ → QueueState → QueueAnswer (Unit {0})
+commanded command number queue = at_entry command number queue (legal_entry command number queue.entries)
+
 -- HoldQueueEntry: of a waiting entry; it is held.
 abbrev pub hold : ℕ → QueueState → QueueAnswer (Unit {0})
-hold number queue =
-    at_entry (legal_entry commands.Hold number queue.entries) queue
-    (λ entry. accepted (set_status number statuses.Held entry queue))
+hold number queue = commanded commands.Hold number queue
 
 -- ResumeQueueEntry: of a held or suspended entry; it waits.
 abbrev pub resume : ℕ → QueueState → QueueAnswer (Unit {0})
-resume number queue =
-    at_entry (legal_entry commands.Resume number queue.entries) queue
-    (λ entry. accepted (set_status number statuses.Waiting entry queue))
+resume number queue = commanded commands.Resume number queue
 
 -- SuspendQueueEntry: of a running entry; 27 where the most entries are in flight; it is suspended.
 abbrev pub suspend : ℕ → QueueState → QueueAnswer (Unit {0})
-suspend number queue =
-    at_entry (legal_entry commands.Suspend number queue.entries) queue
-    (λ entry. if nat_le most_in_flight (count_in_flight queue.entries) then refused queue refusals.InFlightFull
-    else accepted (set_status number statuses.Suspended entry queue))
+suspend number queue = commanded commands.Suspend number queue
 
 -- AbortQueueEntry: of an entry that did not end; it is aborted.
 abbrev pub abort : ℕ → QueueState → QueueAnswer (Unit {0})
-abort number queue =
-    at_entry (legal_entry commands.Abort number queue.entries) queue
-    (λ entry. accepted (set_status number statuses.Aborted entry queue))
+abort number queue = commanded commands.Abort number queue
 
 -- RemoveQueueEntry: of an entry that waits, is held or ended; it leaves the list.
 abbrev pub remove : ℕ → QueueState → QueueAnswer (Unit {0})
-remove number queue =
-    at_entry (legal_entry commands.Remove number queue.entries) queue
-    (λ entry. accepted (with_entries (without_entry number queue.entries) queue))
-
-abbrev pub reprioritized : ℕ → Option ℕ → Entry → QueueState → QueueAnswer (Unit {0})
-reprioritized number None entry queue = refused queue refusals.BadPriority
-reprioritized number (Some priority) entry queue =
-    accepted (with_entries (put_again number (record entry { priority = priority }) queue.entries) queue)
+remove number queue = commanded commands.Remove number queue
 
 -- SetQueueEntryPriority: of an entry that waits or is held; 25 a bad priority; it gets the priority, and is put as a new one.
 abbrev pub set_priority : ℕ → ℤ → QueueState → QueueAnswer (Unit {0})
-set_priority number priority queue =
-    at_entry (legal_entry commands.SetPriority number queue.entries) queue
-    (λ entry. reprioritized number (priority_of priority) entry queue)
-
-abbrev pub repositioned : ℕ → Option ℕ → Entry → QueueState → QueueAnswer (Unit {0})
-repositioned number None entry queue = refused queue refusals.BadPosition
-repositioned number (Some index) entry queue =
-    accepted (with_entries (moved_to index number entry queue.entries) queue)
+set_priority number priority queue = commanded (commands.SetPriority priority) number queue
 
 -- SetQueueEntryPosition: of an entry that waits or is held; 26 a bad position; it moves to that index, and keeps its priority.
 abbrev pub set_position : ℕ → ℤ → QueueState → QueueAnswer (Unit {0})
-set_position number position queue =
-    at_entry (legal_entry commands.SetPosition number queue.entries) queue
-    (λ entry. repositioned number (position_within (length queue.entries) position) entry queue)
+set_position number position queue = commanded (commands.SetPosition position) number queue
 
 -- HoldQueue, ResumeQueue: whether no entry begins.
 abbrev pub hold_queue : QueueState → QueueState

@@ -13,8 +13,10 @@ pub enum EntryCommand {
     Suspend,
     Abort,
     Remove,
-    SetPriority,
-    SetPosition,
+    /// Its number is one of 0 to 100, where the command is carried out.
+    SetPriority(i128),
+    /// Its number is an index of the list, where the command is carried out.
+    SetPosition(i128),
 }
 
 impl EntryCommand {
@@ -30,4 +32,17 @@ impl EntryCommand {
             Status::Completed | Status::Aborted => matches!(self, EntryCommand::Remove),
         }
     }
+}
+
+/// What a command makes of the entry that it names.
+#[derive(Clone, Copy, Debug)]
+pub enum EntryChange {
+    /// It gets this status, and keeps its place.
+    Status(Status),
+    /// It gets this priority, and is put as a new entry is.
+    Priority(u8),
+    /// It moves to this index.
+    Index(usize),
+    /// It leaves the list.
+    Removal,
 }

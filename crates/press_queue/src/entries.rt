@@ -1,10 +1,11 @@
 //! The entries of a queue under their numbers, in the order of the queue.
 
-ghost use Rattle.std.specs.Prelude.{◌≡◌, ◌<◌, IsSome, None, OnOk, OnErr, Some};
+ghost use Rattle.std.specs.Prelude.{◌≡◌, ◌<◌, IsSome, None, OnOk, OnErr, Some, IsTrue};
 ghost use Rattle.indexmap.specs.IndexMap.{index_map_len};
-ghost use Rattle.press_queue.specs.Entries.{entry_numbered, with_entry, with_status, place_of, put, put_again, moved_to};
+ghost use Rattle.press_queue.specs.Entries.{entry_numbered, with_entry, with_status, place_of, put, put_again, moved_to, changed, is_within};
 ghost use Rattle.press_queue.specs.Entries.{first_waiting, first_to_go_on, first_running, running_ones, count_in_flight};
 
+use crate::command::EntryChange;
 use crate::entry::Entry;
 use crate::status::Status;
 use indexmap::IndexMap;
@@ -84,6 +85,22 @@ pub fn move_to(entries: &mut Entries, index: usize, number: u64, entry: Entry)
 {
     if let Some(place) = entries.get_index_of(&number) {
         entries.move_index(place, index);
+    }
+}
+
+/// Makes this of an entry, as a command asks.
+pub fn change(entries: &mut Entries, number: u64, entry: Entry, change: EntryChange)
+    requires there { entry_numbered number entries.old.entries ≡ Some entry }
+    requires within { IsTrue (is_within change (index_map_len entries.old)) }
+    ensures { entries.new.entries ≡ changed change number entry entries.old.entries }
+{
+    match change {
+        EntryChange::Status(status) => set_status(entries, number, entry, status),
+        EntryChange::Priority(priority) => put_again(entries, number, Entry { priority, ..entry }),
+        EntryChange::Index(index) => move_to(entries, index, number, entry),
+        EntryChange::Removal => {
+            entries.shift_remove(&number);
+        }
     }
 }
 

@@ -11,6 +11,7 @@ mod refusal;
 mod status;
 mod view;
 
+pub use command::EntryCommand;
 pub use entry::Entry;
 pub use queue::Queue;
 pub use refusal::{Refusal, SubmitError};

@@ -3,7 +3,7 @@
 ghost use Rattle.std.specs.Prelude.{◌≡◌};
 ghost use Rattle.press_queue.specs.Priority.{priority_of, position_within};
 
-use crate::command::EntryCommand;
+use crate::command::{EntryChange, EntryCommand};
 use crate::entries;
 use crate::entries::Entries;
 use crate::entry::Entry;
@@ -49,7 +49,7 @@ impl Model for Queue {
 impl Queue {
     ghost use Rattle.std.specs.Prelude.{◌≡◌, ◌<◌, None, Err, IfOk, IfErr, OnOk, IsTrue, length};
     ghost use Rattle.press_queue.specs.Answers.{Submits};
-    ghost use Rattle.press_queue.specs.Entries.{entry_numbered};
+    ghost use Rattle.press_queue.specs.Entries.{entry_numbered, is_within};
     ghost use Rattle.press_queue.specs.EveryQueue.{IsQueue};
     ghost use Rattle.press_queue.specs.State.{empty_queue};
     ghost use Rattle.press_queue.specs.View.{shown};
@@ -118,6 +118,48 @@ impl Queue {
         }
     }
 
+    /// What a command makes of an entry at which it is legal.
+    fn change_of(&self, command: EntryCommand) -> Result<EntryChange, Refusal>
+        ensures value { result ≡ rows.change_of command self.now }
+        ensures within { IfOk result (λ change. IsTrue (is_within change (length self.now.entries))) }
+    {
+        Ok(match command {
+            EntryCommand::Hold => EntryChange::Status(Status::Held),
+            EntryCommand::Resume => EntryChange::Status(Status::Waiting),
+            EntryCommand::Suspend => {
+                if entries::count_in_flight(&self.entries) >= MAX_IN_FLIGHT {
+                    return Err(Refusal::InFlightFull);
+                }
+                EntryChange::Status(Status::Suspended)
+            }
+            EntryCommand::Abort => EntryChange::Status(Status::Aborted),
+            EntryCommand::Remove => EntryChange::Removal,
+            EntryCommand::SetPriority(priority) => {
+                EntryChange::Priority(priority_of(priority).ok_or(Refusal::BadPriority)?)
+            }
+            EntryCommand::SetPosition(position) => {
+                let index = position_within(self.entries.len(), position);
+                EntryChange::Index(index.ok_or(Refusal::BadPosition)?)
+            }
+        })
+    }
+
+    /// Carries out a command to an entry.
+    ///
+    /// # Errors
+    ///
+    /// `Unknown` (21) and `WrongStatus` (22); then `InFlightFull` (27), `BadPriority` (25) or
+    /// `BadPosition` (26), each of the one command that it is of. They change nothing.
+    pub fn command(&mut self, number: u64, command: EntryCommand) -> Result<(), Refusal>
+        ensures row { (self.new, result) ≡ rows.commanded command number self.old }
+        ensures bounds { IsQueue self.old }
+    {
+        let entry = self.legal_entry(command, number)?;
+        let change = self.change_of(command)?;
+        entries::change(&mut self.entries, number, entry, change);
+        Ok(())
+    }
+
     /// Holds an entry that waits.
     ///
     /// # Errors
@@ -126,9 +168,7 @@ impl Queue {
     pub fn hold(&mut self, number: u64) -> Result<(), Refusal>
         ensures { (self.new, result) ≡ rows.hold number self.old }
     {
-        let entry = self.legal_entry(EntryCommand::Hold, number)?;
-        entries::set_status(&mut self.entries, number, entry, Status::Held);
-        Ok(())
+        self.command(number, EntryCommand::Hold)
     }
 
     /// Lets an entry that is held or suspended wait.
@@ -139,9 +179,7 @@ impl Queue {
     pub fn resume(&mut self, number: u64) -> Result<(), Refusal>
         ensures { (self.new, result) ≡ rows.resume number self.old }
     {
-        let entry = self.legal_entry(EntryCommand::Resume, number)?;
-        entries::set_status(&mut self.entries, number, entry, Status::Waiting);
-        Ok(())
+        self.command(number, EntryCommand::Resume)
     }
 
     /// Suspends an entry that runs.
@@ -152,12 +190,7 @@ impl Queue {
     pub fn suspend(&mut self, number: u64) -> Result<(), Refusal>
         ensures { (self.new, result) ≡ rows.suspend number self.old }
     {
-        let entry = self.legal_entry(EntryCommand::Suspend, number)?;
-        if entries::count_in_flight(&self.entries) >= MAX_IN_FLIGHT {
-            return Err(Refusal::InFlightFull);
-        }
-        entries::set_status(&mut self.entries, number, entry, Status::Suspended);
-        Ok(())
+        self.command(number, EntryCommand::Suspend)
     }
 
     /// Aborts an entry that did not end.
@@ -168,9 +201,7 @@ impl Queue {
     pub fn abort(&mut self, number: u64) -> Result<(), Refusal>
         ensures { (self.new, result) ≡ rows.abort number self.old }
     {
-        let entry = self.legal_entry(EntryCommand::Abort, number)?;
-        entries::set_status(&mut self.entries, number, entry, Status::Aborted);
-        Ok(())
+        self.command(number, EntryCommand::Abort)
     }
 
     /// Takes an entry that waits, is held or ended off the list.
@@ -181,9 +212,7 @@ impl Queue {
     pub fn remove(&mut self, number: u64) -> Result<(), Refusal>
         ensures { (self.new, result) ≡ rows.remove number self.old }
     {
-        let _entry = self.legal_entry(EntryCommand::Remove, number)?;
-        self.entries.shift_remove(&number);
-        Ok(())
+        self.command(number, EntryCommand::Remove)
     }
 
     /// Gives an entry that waits or is held a priority from 0 to 100, and puts it as a new one is.
@@ -194,12 +223,7 @@ impl Queue {
     pub fn set_priority(&mut self, number: u64, priority: i128) -> Result<(), Refusal>
         ensures { (self.new, result) ≡ rows.set_priority number priority self.old }
     {
-        let entry = self.legal_entry(EntryCommand::SetPriority, number)?;
-        let Some(priority) = priority_of(priority) else {
-            return Err(Refusal::BadPriority);
-        };
-        entries::put_again(&mut self.entries, number, Entry { priority, ..entry });
-        Ok(())
+        self.command(number, EntryCommand::SetPriority(priority))
     }
 
     /// Moves an entry that waits or is held to an index of the list, from 0. Its priority stays.
@@ -210,12 +234,7 @@ impl Queue {
     pub fn set_position(&mut self, number: u64, position: i128) -> Result<(), Refusal>
         ensures { (self.new, result) ≡ rows.set_position number position self.old }
     {
-        let entry = self.legal_entry(EntryCommand::SetPosition, number)?;
-        let Some(index) = position_within(self.entries.len(), position) else {
-            return Err(Refusal::BadPosition);
-        };
-        entries::move_to(&mut self.entries, index, number, entry);
-        Ok(())
+        self.command(number, EntryCommand::SetPosition(position))
     }
 
     /// From now on no entry begins.

@@ -1,4 +1,5 @@
--- A lemma for each row.
+-- A lemma for each row; the commands to one entry have one.
+use Rattle.press_queue.specs.declared.command.EntryCommand.TheVariants as commands
 use Rattle.press_queue.proofs.RowLemmas as lemmas
 use Rattle.press_queue.proofs.laws.each_row_keeps_the_queue.Goals as goal
 
@@ -6,13 +7,14 @@ pub returns : goal.returns
 returns c = record {
   new = lemmas.empty_queue-is;
   submit = lemmas.submit-keeps;
-  hold = lemmas.hold-keeps;
-  resume = lemmas.resume-keeps;
-  suspend = lemmas.suspend-keeps;
-  abort = lemmas.abort-keeps;
-  remove = lemmas.remove-keeps;
-  set_priority = lemmas.set_priority-keeps;
-  set_position = lemmas.set_position-keeps;
+  command = lemmas.commanded-keeps;
+  hold = lemmas.commanded-keeps commands.Hold;
+  resume = lemmas.commanded-keeps commands.Resume;
+  suspend = lemmas.commanded-keeps commands.Suspend;
+  abort = lemmas.commanded-keeps commands.Abort;
+  remove = lemmas.commanded-keeps commands.Remove;
+  set_priority = λ number priority. lemmas.commanded-keeps (commands.SetPriority priority) number;
+  set_position = λ number position. lemmas.commanded-keeps (commands.SetPosition position) number;
   hold_queue = lemmas.hold_queue-keeps;
   resume_queue = lemmas.resume_queue-keeps;
   open_queue = lemmas.open_queue-keeps;

@@ -1,5 +1,4 @@
-use Rattle.std.proofs.Common.{◌≡◌, ◌<◌, ◌∙◌, List, Some, IfSome, is_some, true, length, subst, sym, ap, refl}
-use Rattle.press_bits.specs.Page.{Page}
+use Rattle.std.proofs.Common.{◌≡◌, ◌<◌, ◌∙◌, List, Some, is_some, length, subst, sym, ap, refl}
 use Rattle.press_engine.specs.Machine.{StepResult}
 use Rattle.press_core.specs.Inside.{work_of}
 use Rattle.press_table.specs.Outputs.{all_outputs}

@@ -1,4 +1,4 @@
-use Rattle.std.proofs.Common.{◌≡◌, ◌∙◌, List, Some, subst, sym, ap}
+use Rattle.std.proofs.Common.{◌∙◌, List, subst, ap}
 use Rattle.press_engine.specs.Machine.{StepResult}
 use Rattle.press_core.specs.Inside.{work_of}
 use Rattle.press_core.specs.Jobs.{IsAt}
