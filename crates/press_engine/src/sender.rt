@@ -34,6 +34,7 @@ fn send<S: SheetSink, R: ReplySink>(
 }
 
 /// Hands what goes out in a step to the sinks, in order.
+#[inline(always)]
 pub fn send_all<S: SheetSink, R: ReplySink>(
     sent: &[Sent],
     alloc: Global,

@@ -72,6 +72,7 @@ impl State {
     }
 
     /// Carries a row out that does no more than change the state, whatever the value is, and answers whether it is such a row.
+    #[inline(always)]
     pub(crate) fn set_by(&mut self, operation: Operation, command: &Command<'_>) -> bool
         ensures changed { IsTrue result → (source : Source)
             → table_row source operation (token command.now) self.old ≡ Changes self.new }
