@@ -70,10 +70,16 @@ def at_a_glance():
             kit_file, named = record.read_text(encoding="utf-8").splitlines()[:2]
         except (OSError, ValueError):
             continue
+        if record == COMPILED and not named.endswith("-2"):
+            continue   # the faster one may have to be begun again
         made = program.PROGRAM if record == PROVED else record.parent / named
         paths = [path for part in PARTS for path in (ROOT / "crates").glob(f"*/{part}")]
         asked = ["find", *paths, ROOT / "crates.txt", *filter(None, [kit_file]), made, "-cnewer", record, "-print", "-quit"]
-        if os.access(made, os.X_OK) and not subprocess.run(asked, stdout=subprocess.PIPE, stderr=subprocess.STDOUT, check=False).stdout:
+        try:
+            touched = subprocess.run(asked, stdout=subprocess.PIPE, stderr=subprocess.STDOUT, check=False).stdout
+        except OSError:
+            return None   # there is no `find`
+        if os.access(made, os.X_OK) and not touched:
             return made
     return None
 

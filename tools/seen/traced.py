@@ -30,7 +30,7 @@ def texts(stream, chosen=program.PROGRAM):
 
 def told(text):
     """What a line tells."""
-    return DECODER.raw_decode(text.decode())[0]
+    return DECODER.decode(text.decode())
 
 
 def lines(stream, chosen=program.PROGRAM):
