@@ -70,7 +70,7 @@ KINDS = (
           "QueueStatus": (), "Status": ()},
          ("messages", "types of messages"), "",
          {"crates/press_queue/specs/Legal.antt": "the statuses in which it is legal", "crates/press_queue/specs/Rows.antt": "its row",
-          "crates/press_queue/src/queue.rt": "its method", "crates/press_queue/src/command.rt": "its name among the commands to one entry",
+          "crates/press_queue/src/queue.rt": "what it makes of the entry", "crates/press_queue/src/command.rt": "its name among the commands to one entry",
           "crates/press_queue/src/entries.rt": "what it does to the list", "crates/press_core/specs/Listings.antt": "what its response adds",
           "crates/press_core/specs/World.antt": "what follows for its job and its engine",
           "crates/press_core/src/listings.rt": "what its response adds", "tools/reasons/sessions.py": "the statuses in which it is legal",

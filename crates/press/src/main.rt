@@ -2,8 +2,9 @@
 #![tactic(auto)]
 
 use press_devices::Watched;
+use press_disk::{FileOutputs, SystemFiles};
 use press_main::{NamedFiles, run_words};
-use press_sink::{FileOutputs, NamedOutputs};
+use press_sink::NamedOutputs;
 use press_units::NO_MEMORY;
 use std::env;
 use std::io::{self, BufWriter, ErrorKind};
@@ -50,7 +51,7 @@ fn words_of(rt: &HostRuntime) -> io::Result<Vec<String>> {
 /// Where there is no memory for the buffers of standard output and of files. Nothing was read then.
 fn run(rt: &HostRuntime, words: &[String]) -> io::Result<u8> {
     let out = Watched::new(BufWriter::with_capacity(rt.alloc(), BUFFER, io::writer(rt))?);
-    let mut outputs = FileOutputs::new(rt.alloc(), rt)?;
+    let mut outputs = FileOutputs::new(rt.alloc(), SystemFiles::new(rt))?;
     outputs.spare(STANDARD_INPUT)?;
     let mut inputs = NamedFiles::new(rt.alloc(), rt);
     let input = Watched::new(rt.stdin());

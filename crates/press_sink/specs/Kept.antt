@@ -1,5 +1,5 @@
 -- What sinks keep.
-use Rattle.std.specs.Prelude.{ℕ, zero, suc, Bool, List, length, map, nat_lt, Option, Some, None, option_map}
+use Rattle.std.specs.Prelude.{ℕ, zero, suc, List, map, Option, Some, None, option_map}
 use Rattle.std.specs.String.{string_bytes}
 use Rattle.press_sink.specs.declared.sheet.Delivery.{Delivery}
 use Rattle.press_sink.specs.declared.list_sink.ListSink.{ListSink}
@@ -9,8 +9,6 @@ use Rattle.press_sink.specs.declared.fuse_sink.FuseSink.{FuseSink}
 use Rattle.press_sink.specs.declared.write_replies.WriteReplies.{WriteReplies}
 use Rattle.press_sink.specs.declared.template.Template.{Template}
 use Rattle.press_sink.specs.declared.folder_sink.FolderSink.{FolderSink}
-use Rattle.press_sink.specs.declared.file_outputs.FileOutputs.{FileOutputs}
-use Rattle.press_sink.specs.declared.output_file.OutputFile.{OutputFile}
 use Rattle.press_sink.specs.declared.side.Side.{Side}
 use Rattle.press_sink.specs.declared.list_outputs.ListedOutput.{ListedOutput}
 use Rattle.press_sink.specs.declared.list_outputs.ListOutputs.{ListOutputs}
@@ -103,15 +101,3 @@ outputs_in listed = map output_of listed
 -- the outputs that a list of them keeps
 abbrev pub kept_outputs : ListOutputs → List MadeOutput
 kept_outputs list = outputs_in list.outputs.items
-
--- whether making, writing or closing a file failed or was interrupted so far
-abbrev pub file_failed : {F : Type 0} → FileOutputs F → Bool
-file_failed files = files.failed
-
--- whether bytes that were written to a file wait in its buffer
-abbrev pub waits_in : {T : Type 0} → OutputFile T → Bool
-waits_in file = nat_lt 0 (length file.held.items)
-
--- whether bytes of a file that was closed or given up never went out of the program
-abbrev pub file_waiting : {F : Type 0} → FileOutputs F → Bool
-file_waiting files = files.waiting

@@ -2,8 +2,6 @@
 #![tactic(auto)]
 
 mod fault;
-mod file_number;
-mod file_outputs;
 mod folder_sink;
 mod fuse_replies;
 mod fuse_sink;
@@ -11,17 +9,13 @@ mod list_outputs;
 mod list_replies;
 mod list_sink;
 mod named_outputs;
-mod output_file;
-mod parts;
 mod sheet;
 mod side;
 mod sink;
-mod stream_name;
 mod template;
 mod write_replies;
 
 pub use fault::{REPLY_FAULT, ReplyError, SINK_FAULT, SinkError, TemplateError};
-pub use file_outputs::FileOutputs;
 pub use folder_sink::{FolderSink, Unopened};
 pub use fuse_replies::FuseReplies;
 pub use fuse_sink::FuseSink;
@@ -29,7 +23,6 @@ pub use list_outputs::{ListOutputs, ListedOutput};
 pub use list_replies::ListReplies;
 pub use list_sink::ListSink;
 pub use named_outputs::{NamedOutputs, write_output, write_page};
-pub use output_file::OutputFile;
 pub use sheet::{Delivery, Sheet};
 pub use sink::{ReplySink, SheetSink};
 pub use template::is_side_name;

@@ -1,6 +1,6 @@
 //! A file that is being written (this profile).
 ghost use Rattle.std.specs.Prelude.{◌≡◌, false, OnOk};
-ghost use Rattle.press_sink.specs.Kept.{waits_in};
+ghost use Rattle.press_disk.specs.Kept.{file_in, waits_in};
 
 use press_devices::write_whole;
 use std::io::{self, Write};
@@ -15,15 +15,19 @@ pub struct OutputFile<T> {
 
 impl<T: Write + Drop> OutputFile<T> {
     /// A file behind a buffer with as much room as this one has.
-    pub(crate) fn new(file: T, buffer: Vec<u8>) -> Self {
+    pub(crate) fn new(file: T, buffer: Vec<u8>) -> Self
+        ensures { file_in result ≡ file }
+    {
         OutputFile { file, held: buffer }
     }
 
-    /// Closes the file, and hands the buffer back without what it holds.
-    pub(crate) fn into_buffer(self) -> Vec<u8> {
-        let OutputFile { file: _, mut held } = self;
+    /// The file, and the buffer without what it holds.
+    pub(crate) fn into_parts(self) -> (T, Vec<u8>)
+        ensures { result.0 ≡ file_in self }
+    {
+        let OutputFile { file, mut held } = self;
         held.clear();
-        held
+        (file, held)
     }
 
     /// How many more bytes the buffer takes without memory.

@@ -1,0 +1,3 @@
+-- Lemmas on disks.
+pub mod DiskLemmas
+pub mod TurnLemmas
