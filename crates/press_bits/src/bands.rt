@@ -1,10 +1,10 @@
 //! Pages of dots that stand in bands of sixty-four lines. A band that is not there is white.
 #![tactic(auto)]
 
-ghost use Rattle.std.specs.Prelude.{◌≡◌, ℕ, ◌<◌, ◌≤◌, ◌+◌, ◌-◌, ◌*◌, ◌/◌, ◌≢◌, ◌↔◌, ◌⊎◌, length, take, min, pos, true, false, MatchOption, IfOk, IsTrue, OnOk};
+ghost use Rattle.std.specs.Prelude.{◌≡◌, ℕ, ◌<◌, ◌≤◌, ◌+◌, ◌-◌, ◌*◌, ◌/◌, ◌≢◌, ◌↔◌, ◌⊎◌, length, replicate, take, min, pos, true, false, MatchOption, IfOk, IsTrue, OnOk};
 ghost use Rattle.std.specs.List.{range_with_len, sum_by};
 ghost use Rattle.press_bits.specs.Page.{HasNoDotOutside, black_at, black_in_line, blank, count_black, is_page_size};
-ghost use Rattle.press_bits.specs.Mark.{Row, IsSolid, IsWhite, painted, row, row_dot, row_mark};
+ghost use Rattle.press_bits.specs.Mark.{Row, IsInk, IsSolid, IsWhite, painted, row, row_dot, row_mark};
 ghost use Rattle.press_bits.specs.Lines.{ArePageLines, IsPageLine};
 ghost use Rattle.press_bits.specs.Bands.{AreReady, StaysReady, band_at, band_lines, is_there};
 
@@ -343,6 +343,45 @@ impl Bands {
             ≡ painted self.old.page (row_mark x y (row source.entry) (row pattern.entry) mode) }
         ensures ready { self.new.ready ≡ self.old.ready }
     {
+        self.paint_dots(x, y, source, pattern, mode, false);
+    }
+
+    /// Paints so many black dots of a line, from column `x` on, through a row of a pattern, as [`Bands::paint_row`] paints a row of
+    /// them.
+    ///
+    /// Source: PCL 5 Printer Language Technical Reference Manual, The PCL Print Model, and Rectangular Area Fill Graphics.
+    pub fn ink(&mut self, x: u32, y: u32, dots: u32, pattern: DotRow<'_>, mode: Mode)
+        requires narrow { dots ≤ MAX_SIDE }
+        requires some { 1 ≤ pattern.dots }
+        requires ready { IsWhite (row pattern) ⊎ AreReady self.old (pos y) 1 }
+        ensures painted { self.new.page ≡ painted self.old.page (row_mark (pos x) (pos y)
+            (record { bits = replicate WIDEST_ROW 255; dots = dots }) (row pattern.entry) mode) }
+        ensures ready { self.new.ready ≡ self.old.ready }
+    {
+        let source = DotRow {
+            bits: &[0xFF; WIDEST_ROW],
+            dots: dots as usize,
+        };
+        self.paint_dots(i64::from(x), i64::from(y), source, pattern, mode, true);
+    }
+
+    /// Paints a row of source dots, which may all be black, through a row of a pattern.
+    fn paint_dots(
+        &mut self,
+        x: i64,
+        y: i64,
+        source: DotRow<'_>,
+        pattern: DotRow<'_>,
+        mode: Mode,
+        ink: bool,
+    )
+        requires some { 1 ≤ pattern.dots }
+        requires ready { IsWhite (row pattern) ⊎ AreReady self.old y 1 }
+        requires black { ink ≡ true → IsInk (row source) }
+        ensures painted { self.new.page
+            ≡ painted self.old.page (row_mark x y (row source.entry) (row pattern.entry) mode) }
+        ensures ready { self.new.ready ≡ self.old.ready }
+    {
         let Some(line) = place_within(y, self.height) else {
             return;
         };
@@ -361,6 +400,7 @@ impl Bands {
             through,
             mode,
             laid: mode.source_opaque && through.is_black(),
+            ink,
         };
         self.bands[line / BAND].paint(start, &stroke);
     }

@@ -1,12 +1,14 @@
 //! Rows of dots that are mixed into the bytes of a page, sixty-four dots at a time.
-ghost use Rattle.std.specs.Prelude.{◌≡◌, ℕ, ◌+◌, ◌-◌, ◌*◌, ◌/◌, ◌^◌, ◌<◌, ◌≤◌, ◌⊎◌, ◌&&◌, nat_le, nat_lt, min, pos, ◌+ℤ◌, length, false};
+ghost use Rattle.std.specs.Prelude.{◌≡◌, ℕ, ◌+◌, ◌-◌, ◌*◌, ◌/◌, ◌^◌, ◌<◌, ◌≤◌, ◌⊎◌, ◌&&◌, nat_le, nat_lt, min, pos, ◌+ℤ◌, length, true, false};
 ghost use Rattle.press_bits.specs.Mark.{row, row_dot, repeated};
 ghost use Rattle.press_bits.specs.Words.{word_dot};
-ghost use Rattle.press_bits.specs.Ranges.{IsBlackened, IsPaintedAlong, IsPaintedFrom};
+ghost use Rattle.press_bits.specs.Ranges.{HasInkOf, IsBlackened, IsPaintedAlong, IsPaintedFrom};
 
 use crate::mode::{Mode, TRANSPARENT};
 use crate::stroke::{Run, Stroke};
-use crate::word::{mixed_word, put_word, whole_word_at, whole_word_from, word_at, word_from};
+use crate::word::{
+    alike, mixed_word, put_word, whole_word_at, whole_word_from, word_at, word_from,
+};
 
 /// The dots that lie on a side of a page, of a row whose first dot lies at place `at`.
 pub(crate) fn run_within(at: i64, dots: usize, side: u32) -> Run
@@ -184,6 +186,72 @@ fn mix_repeated(
     }
 }
 
+/// Paints so many words of sixty-four dots of a stroke of ink, from a byte on, through these dots of its pattern, which come again at each
+/// word: no dot of the source is asked for.
+#[inline(always)]
+fn ink_words(
+    rows: &mut [u8],
+    first: usize,
+    words: usize,
+    line: usize,
+    stroke: &Stroke<'_, '_>,
+    through: u64,
+    mode: Mode,
+)
+    requires mode { mode ≡ stroke.now.mode }
+    requires ink { stroke.now.ink ≡ true }
+    requires room { first + 8 * words ≤ length rows.old }
+    requires small { length rows.old < 2 ^ 40 }
+    requires begun { 8 * line + stroke.now.run.first ≤ 8 * first }
+    requires left { 8 * first + 64 * words
+        ≤ 8 * line + stroke.now.run.first + stroke.now.run.count }
+    requires enough { stroke.now.run.skip + stroke.now.run.count ≤ stroke.now.source.dots }
+    requires through { (k j : ℕ) → j < 64 → word_dot through j
+        ≡ repeated (row stroke.now.through.pattern) (8 * (first - line) + 64 * k + j) }
+    ensures { IsPaintedFrom rows.old rows.new line stroke.now (8 * first) (8 * first + 64 * words) }
+{
+    for word in 0..words {
+        mix_word(
+            rows,
+            first + 8 * word,
+            line,
+            stroke,
+            alike(true),
+            through,
+            mode,
+        );
+    }
+}
+
+/// The same, with a loop of its own where all white dots are transparent.
+#[inline(always)]
+fn ink_repeated(
+    rows: &mut [u8],
+    first: usize,
+    words: usize,
+    line: usize,
+    stroke: &Stroke<'_, '_>,
+    through: u64,
+)
+    requires ink { stroke.now.ink ≡ true }
+    requires room { first + 8 * words ≤ length rows.old }
+    requires small { length rows.old < 2 ^ 40 }
+    requires begun { 8 * line + stroke.now.run.first ≤ 8 * first }
+    requires left { 8 * first + 64 * words
+        ≤ 8 * line + stroke.now.run.first + stroke.now.run.count }
+    requires enough { stroke.now.run.skip + stroke.now.run.count ≤ stroke.now.source.dots }
+    requires through { (k j : ℕ) → j < 64 → word_dot through j
+        ≡ repeated (row stroke.now.through.pattern) (8 * (first - line) + 64 * k + j) }
+    ensures { IsPaintedFrom rows.old rows.new line stroke.now (8 * first) (8 * first + 64 * words) }
+{
+    let mode = stroke.mode;
+    if mode == TRANSPARENT {
+        ink_words(rows, first, words, line, stroke, through, TRANSPARENT);
+    } else {
+        ink_words(rows, first, words, line, stroke, through, mode);
+    }
+}
+
 /// Paints so many words of sixty-four dots of a stroke, from a byte on: one whose pattern comes again at each word by a loop of its own.
 #[inline(always)]
 fn mix_words(rows: &mut [u8], first: usize, words: usize, line: usize, stroke: &Stroke<'_, '_>)
@@ -199,6 +267,10 @@ fn mix_words(rows: &mut [u8], first: usize, words: usize, line: usize, stroke: &
         paint_words(rows, first, words, line, stroke);
         return;
     };
+    if stroke.ink {
+        ink_repeated(rows, first, words, line, stroke, through);
+        return;
+    }
     let dot = stroke.run.skip + (8 * first - (8 * line + stroke.run.first));
     let behind = stroke.source.bits.len().saturating_sub(dot / 8 + 1);
     let inner = words.min(behind / 8);
@@ -260,6 +332,45 @@ fn paint_next(
     from + 64 * words
 }
 
+/// The run of a stroke without the words of white dots at its ends, where white dots of the source are transparent.
+fn inked(stroke: &Stroke<'_, '_>) -> Run
+    requires small { stroke.now.run.first + stroke.now.run.count < 2 ^ 64 }
+    requires enough { stroke.now.run.skip + stroke.now.run.count ≤ stroke.now.source.dots }
+    ensures { HasInkOf stroke.now result }
+{
+    let mut run = stroke.run;
+    if stroke.ink || stroke.mode.source_opaque {
+        return run;
+    }
+    let bits = stroke.source.bits;
+    while run.count >= 64 && word_from(bits, run.skip) == 0 {
+        run.first += 64;
+        run.skip += 64;
+        run.count -= 64;
+    }
+    while run.count >= 64 && word_from(bits, run.skip + run.count - 64) == 0 {
+        run.count -= 64;
+    }
+    run
+}
+
+/// Paints dots of a stroke, from dot `first` on and before dot `end`.
+fn paint_between(rows: &mut [u8], line: usize, stroke: &Stroke<'_, '_>, first: usize, end: usize)
+    requires order { first ≤ end }
+    requires within { end ≤ 8 * length rows.old }
+    requires long { 8 ≤ length rows.old }
+    requires small { length rows.old < 2 ^ 40 }
+    requires begun { 8 * line + stroke.now.run.first ≤ first }
+    requires left { end ≤ 8 * line + stroke.now.run.first + stroke.now.run.count }
+    requires enough { stroke.now.run.skip + stroke.now.run.count ≤ stroke.now.source.dots }
+    ensures { IsPaintedFrom rows.old rows.new line stroke.now first end }
+{
+    let mut from = first;
+    while from < end {
+        from = paint_next(rows, line, stroke, from, end);
+    }
+}
+
 /// Paints a run of source dots, through a pattern, into the line that begins at byte `line`.
 pub(crate) fn paint_across(rows: &mut [u8], line: usize, stroke: &Stroke<'_, '_>)
     requires within { 8 * line + stroke.now.run.first + stroke.now.run.count ≤ 8 * length rows.old }
@@ -268,11 +379,9 @@ pub(crate) fn paint_across(rows: &mut [u8], line: usize, stroke: &Stroke<'_, '_>
     requires enough { stroke.now.run.skip + stroke.now.run.count ≤ stroke.now.source.dots }
     ensures { IsPaintedAlong rows.old rows.new line stroke.now }
 {
-    let mut from = 8 * line + stroke.run.first;
-    let end = from + stroke.run.count;
-    while from < end {
-        from = paint_next(rows, line, stroke, from, end);
-    }
+    let run = inked(stroke);
+    let first = 8 * line + run.first;
+    paint_between(rows, line, stroke, first, first + run.count);
 }
 
 /// Blackens dots from dot `from` on that lie before dot `end`, and says before which: whole words where it begins with a byte, and

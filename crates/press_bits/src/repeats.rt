@@ -6,7 +6,7 @@ ghost use Rattle.press_bits.specs.Mark.{IsBlack, row, repeated};
 ghost use Rattle.press_bits.specs.Words.{word_dot};
 
 use crate::dot_row::DotRow;
-use crate::word::{joined, word_from};
+use crate::word::{joined, word_at, word_from};
 
 /// A pattern that is repeated along a line, and its first sixty-four dots.
 #[derive(Clone, Copy)]
@@ -26,7 +26,7 @@ impl<'p> Repeats<'p> {
         requires { 1 ≤ pattern.dots }
         ensures { result.pattern ≡ pattern.entry }
     {
-        let mut prefix = word_from(pattern.bits, 0);
+        let mut prefix = word_at(pattern.bits, 0);
         let mut known = pattern.dots;
         while known < 64 {
             prefix = joined(prefix, known, prefix);
@@ -35,7 +35,7 @@ impl<'p> Repeats<'p> {
         Repeats {
             pattern,
             prefix,
-            divides: 64 % pattern.dots == 0,
+            divides: matches!(pattern.dots, 1 | 2 | 4 | 8 | 16 | 32 | 64),
         }
     }
 

@@ -8,7 +8,7 @@ pub loop-known-init : goal.loop-known-init
 loop-known-init c = record {
   some = c.requires;
   period = IsPeriod-dots (row c.args.pattern);
-  dots = λ j within before. c.word_from-prefix.ensures j within ∙ ap (row_dot c.args.pattern.bits.now) (omega arith) ∙ repeated-first (row c.args.pattern) j before;
+  dots = λ j within before. c.word_at-prefix.ensures.dots j within ∙ ap (row_dot c.args.pattern.bits.now) (omega arith) ∙ repeated-first (row c.args.pattern) j before;
 }
 
 pub loop-known-preserved : goal.loop-known-preserved

@@ -1,0 +1,27 @@
+use Rattle.std.proofs.Common.{◌≡◌, ◌∙◌, ◌<◌, ℤ, pos, inl, inr, ap, sym, subst, to_z, of_z, w64, replicate, arith}
+use Rattle.std.proofs.lemmas.Int.{to_z_pos}
+use Rattle.press_bits.specs.Bands.{AreReady}
+use Rattle.press_bits.specs.Mark.{painted, row, row_mark}
+use Rattle.press_bits.proofs.MarkLemmas.{IsAllBlack-replicate}
+use Rattle.press_bits.proofs.bands.Bands.ink.Goals as goal
+
+pub paint_dots-requires-clause-black : goal.paint_dots-requires-clause-black
+paint_dots-requires-clause-black c = λ _. (IsAllBlack-replicate 2048 c.args.dots (omega (arith, c.requires.narrow))).black
+
+pub paint_dots-requires-clause-ready : goal.paint_dots-requires-clause-ready
+paint_dots-requires-clause-ready c =
+    let small : c.args.y < 9223372036854775808 = omega arith in
+    let line : to_z w64 (of_z w64 c.from-2.result) ≡ pos c.args.y = ap (λ (z : ℤ). to_z w64 (of_z w64 z)) c.from-2.ensures ∙ to_z_pos w64 c.args.y small in
+    elim c.requires.ready [
+      | inl white ↦ inl white
+      | inr ready ↦ inr (subst (λ (z : ℤ). AreReady c.args.self.now z 1) (sym line) ready)
+    ]
+
+pub returns-clause-painted : goal.returns-clause-painted
+returns-clause-painted c =
+    let x_small : c.args.x < 9223372036854775808 = omega arith in
+    let y_small : c.args.y < 9223372036854775808 = omega arith in
+    let column : to_z w64 (of_z w64 c.from.result) ≡ pos c.args.x = ap (λ (z : ℤ). to_z w64 (of_z w64 z)) c.from.ensures ∙ to_z_pos w64 c.args.x x_small in
+    let line : to_z w64 (of_z w64 c.from-2.result) ≡ pos c.args.y = ap (λ (z : ℤ). to_z w64 (of_z w64 z)) c.from-2.ensures ∙ to_z_pos w64 c.args.y y_small in
+    c.paint_dots.ensures.painted
+    ∙ (λ i. painted c.args.self.now.page (row_mark (column i) (line i) (record { bits = replicate 2048 255; dots = c.args.dots }) (row c.args.pattern) c.args.mode))
