@@ -35,11 +35,7 @@ fn paint_line(
         page.blacken(x, y, columns);
         return;
     }
-    let source = DotRow {
-        bits: &[0xFF; WIDEST_ROW],
-        dots: columns as usize,
-    };
-    page.paint_row(i64::from(x), i64::from(y), source, pattern, mode);
+    page.ink(x, y, columns, pattern, mode);
 }
 
 /// Paints a rectangle of a page, whose lines are ready, or white and stay so, through a tile. Dots outside the
