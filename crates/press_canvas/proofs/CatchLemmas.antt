@@ -1,5 +1,5 @@
 -- Pages of frames that differ in a rectangle of their dots.
-use Rattle.std.proofs.Common.{◌≡◌, ◌≢◌, ◌<◌, ◌&&◌, ℕ, Bool, true, false, refl, sym, ap, subst, ◌∙◌, arith}
+use Rattle.std.proofs.Common.{◌≡◌, ◌≢◌, ◌<◌, ◌≤◌, ◌⊎◌, ◌&&◌, ℕ, Bool, true, false, refl, sym, ap, subst, ◌∙◌, arith}
 use Rattle.std.specs.Prelude.{nat_lt}
 use Rattle.std.proofs.lemmas.Bool.Decides.{nat_tests}
 use Rattle.press_bits.specs.Page.{Page, black_at, HasNoDotOutside}
@@ -11,11 +11,11 @@ use Rattle.press_page.specs.Place.{placed_dot}
 use Rattle.press_page.specs.declared.media.Orientation.{Orientation}
 use Rattle.press_page.specs.declared.media.Orientation.TheVariants.{Portrait, Landscape, ReversePortrait, ReverseLandscape}
 use Rattle.press_page.specs.declared.place.Extent.{Extent}
-use Rattle.press_canvas.specs.Changes.{AgreeAround, IsBeside}
+use Rattle.press_canvas.specs.Changes.{AgreeAround, AgreeBesideLines, IsBeside}
 use Rattle.press_canvas.specs.declared.changes.Rectangle.{Rectangle}
 use Rattle.press_canvas.specs.Turned.{extent, opposite, page_of_frame, turned_dot, turned_page}
 use Rattle.press_canvas.proofs.FrameLemmas.{page_laid, turned_same}
-use Rattle.press_canvas.proofs.TurnedLemmas.{black_at-turned_page, height-turned_page, turned_page-HasNoDotOutside, width-turned_page}
+use Rattle.press_canvas.proofs.TurnedLemmas.{black_at-turned_page, height-turned_page, placed_forth, turned_page-HasNoDotOutside, width-turned_page}
 
 -- the page of a frame has the dots of the frame, turned
 pub extent_of_page : (o : Orientation) (frame : Page) → extent (page_of_frame o frame) ≡ turned o (extent frame)
@@ -86,21 +86,6 @@ pages_changed o before after dots there region same other none_before none_after
         let d = placed_dot o (size before).width (size before).height x y in
         agree d.0 d.1 (moved (under x (size before).width left) (under y (size before).height above)))
 
--- upright frames agree where their pages do
-pub upright_beside : (before after : Page) (first end : ℕ) → extent after ≡ extent before → AgreeBeside first end (page_of_frame Portrait before) (page_of_frame Portrait after)
-    → AgreeBeside first end before after
-upright_beside before after first end same beside = λ x y wide high apart.
-    let within : x < after.width = subst (λ (e : Extent). x < e.width) (sym same) wide in
-    let above : y < after.height = subst (λ (e : Extent). y < e.height) (sym same) high in
-    sym (black_at-turned_page Portrait after.width after.height after x y within above)
-    ∙ beside x y (subst (λ w. x < w) (sym (width-turned_page Portrait before.width before.height before)) wide)
-    (subst (λ h. y < h) (sym (height-turned_page Portrait before.width before.height before)) high) apart
-    ∙ black_at-turned_page Portrait before.width before.height before x y wide high
-
--- frames of pages of one size have one size, as they lie alike
-pub laid_extent : (o p : Orientation) (before after : Page) (page : Page) → page_of_frame p before ≡ page → p ≡ o → extent (page_of_frame o after) ≡ extent page → extent after ≡ extent before
-laid_extent o p before after page same lies sized = same_extent o before after (sized ∙ ap extent (sym same ∙ ap (λ q. page_of_frame q before) lies))
-
 -- ---- dots of the page of a frame
 
 pub dot_of_page : (o : Orientation) (frame : Page) (page : Extent) (x y : ℕ) → page ≡ extent (page_of_frame o frame) → x < page.width → y < page.height
@@ -110,6 +95,30 @@ dot_of_page o frame page x y is wide high =
     let size : Extent = turned o (extent frame) in
     black_at-turned_page o size.width size.height frame x y (subst (λ (e : Extent). x < e.width) sized wide) (subst (λ (e : Extent). y < e.height) sized high)
     ∙ (λ i. let e = sym sized i in let dot = placed_dot o e.width e.height x y in black_at frame dot.0 dot.1)
+
+-- frames that lie so agree beside lines where their pages do
+pub frames_beside : (o : Orientation) (before after : Page) (first end : ℕ) → extent after ≡ extent before
+    → AgreeBesideLines o first end (page_of_frame o before) (page_of_frame o after) → AgreeBeside first end before after
+frames_beside o before after first end same beside x y wide high apart =
+    let page : Extent = turned o (extent before) in
+    let frame : turned o page ≡ extent before = turned_same o (extent before) in
+    let size : extent (page_of_frame o before) ≡ page = extent_of_page o before in
+    let back = placed_forth o page.width page.height x y (subst (λ (e : Extent). x < e.width) (sym frame) wide) (subst (λ (e : Extent). y < e.height) (sym frame) high) in
+    let there = placed_dot (opposite o) (turned o page).width (turned o page).height x y in
+    let within : there.0 < (extent (page_of_frame o before)).width = subst (λ (e : Extent). there.0 < e.width) (sym size) back.0 in
+    let above : there.1 < (extent (page_of_frame o before)).height = subst (λ (e : Extent). there.1 < e.height) (sym size) back.1 in
+    let sizes : extent (page_of_frame o before) ≡ extent (page_of_frame o after) = size ∙ ap (turned o) (sym same) ∙ sym (extent_of_page o after) in
+    let at : placed_dot o (page_of_frame o before).width (page_of_frame o before).height there.0 there.1 ≡ (x, y) =
+    (λ i. placed_dot o (size i).width (size i).height there.0 there.1) ∙ back.2 in
+    let dot : (frame : Page) → extent (page_of_frame o before) ≡ extent (page_of_frame o frame) → black_at (page_of_frame o frame) there.0 there.1 ≡ black_at frame x y
+    = λ frame is. dot_of_page o frame (extent (page_of_frame o before)) there.0 there.1 is within above ∙ ap (λ (d : ℕ × ℕ). black_at frame d.0 d.1) at in
+    sym (dot after sizes)
+    ∙ beside there.0 there.1 within above (subst (λ (d : ℕ × ℕ). (d.1 < first) ⊎ (end ≤ d.1)) (sym at) apart)
+    ∙ dot before refl
+
+-- frames of pages of one size have one size, as they lie alike
+pub laid_extent : (o p : Orientation) (before after : Page) (page : Page) → page_of_frame p before ≡ page → p ≡ o → extent (page_of_frame o after) ≡ extent page → extent after ≡ extent before
+laid_extent o p before after page same lies sized = same_extent o before after (sized ∙ ap extent (sym same ∙ ap (λ q. page_of_frame q before) lies))
 
 pub white_outside : (o : Orientation) (frame : Page) (page : Extent) (x y : ℕ) → page ≡ extent (page_of_frame o frame) → (x < page.width → y < page.height → ⊥)
     → false ≡ black_at (page_of_frame o frame) x y

@@ -3,7 +3,8 @@
 ghost use Rattle.std.specs.Prelude.{◌≡◌, true, IfOk, IfSome, MatchOption, OnErr, OnOk};
 ghost use Rattle.std.specs.Borrow.{Lends, sem};
 ghost use Rattle.press_bits.specs.Page.{HasNoDotOutside, black_at, blank, is_page_size};
-ghost use Rattle.press_bits.specs.Patches.{AgreeBeside, ChangedIn};
+ghost use Rattle.press_bits.specs.Patches.{ChangedIn};
+ghost use Rattle.press_canvas.specs.Changes.{AgreeBesideLines};
 ghost use Rattle.press_canvas.specs.Turned.{extent, frame_page};
 ghost use Rattle.press_canvas.specs.contracts.canvas.Canvas.{the_row};
 ghost use Rattle.press_canvas.specs.contracts.frame.Frame.{the_row as frame_row};
@@ -150,7 +151,8 @@ impl Canvas {
         self.frame.catch_up(alloc, &after.frame)
     }
 
-    /// The same, where the pages agree above line `first` and from line `end` on. Of pages that lie upright no other line is looked at.
+    /// The same, where the pages agree above line `first` of a frame that lies so, and from line `end` on. Of pages that are kept so no other
+    /// line is looked at.
     ///
     /// # Errors
     ///
@@ -159,17 +161,19 @@ impl Canvas {
         &mut self,
         alloc: Global,
         after: &Canvas,
+        orientation: Orientation,
         first: u32,
         end: u32,
     ) -> Result<Option<Region>, AllocError>
         requires extent { extent after.now ≡ extent self.old }
-        requires beside { AgreeBeside first end self.old after.now }
+        requires beside { AgreeBesideLines orientation first end self.old after.now }
         ensures region { IfOk result (λ region. MatchOption region (self.old ≡ after.now)
             (λ region. ChangedIn self.old after.now region)) }
         ensures ok { OnOk result (self.new ≡ after.now) }
         ensures err { OnErr result (self.new ≡ self.old) }
     {
-        self.frame.catch_up_between(alloc, &after.frame, first, end)
+        self.frame
+            .catch_up_between(alloc, &after.frame, orientation, first, end)
     }
 
     /// The physical page, in memory of its own.

@@ -2,9 +2,10 @@
 
 ghost use Rattle.std.specs.Prelude.{◌≡◌, ◌≢◌, ◌<◌, true, IfOk, IsErr, MatchOption, OnErr, OnOk};
 ghost use Rattle.press_bits.specs.Page.{HasNoDotOutside, black_at, is_page_size};
-ghost use Rattle.press_bits.specs.Patches.{AgreeBeside, ChangedIn};
+ghost use Rattle.press_bits.specs.Patches.{ChangedIn};
 ghost use Rattle.press_page.specs.Place.{placed_dot};
 ghost use Rattle.press_page.specs.declared.media.Orientation.TheVariants.{Portrait};
+ghost use Rattle.press_canvas.specs.Changes.{AgreeBesideLines};
 ghost use Rattle.press_canvas.specs.Turned.{extent, frame_page, opposite};
 
 use crate::changes::{changed_dots, on_page, region_of};
@@ -154,7 +155,8 @@ impl Frame {
         }
     }
 
-    /// The same, where the pages agree above line `first` and from line `end` on: where both frames lie upright, no other line is looked at.
+    /// The same, where the pages agree above line `first` of a frame that lies so, and from line `end` on: where both frames lie so, no other
+    /// line is looked at.
     ///
     /// # Errors
     ///
@@ -163,21 +165,22 @@ impl Frame {
         &mut self,
         alloc: Global,
         after: &Frame,
+        orientation: Orientation,
         first: u32,
         end: u32,
     ) -> Result<Option<Region>, AllocError>
         requires extent { extent (frame_page after.now) ≡ extent (frame_page self.old) }
-        requires beside { AgreeBeside first end (frame_page self.old) (frame_page after.now) }
+        requires beside { AgreeBesideLines orientation first end
+            (frame_page self.old) (frame_page after.now) }
         ensures region { IfOk result (λ region.
             MatchOption region (frame_page self.old ≡ frame_page after.now)
             (λ region. ChangedIn (frame_page self.old) (frame_page after.now) region)) }
         ensures ok { OnOk result (frame_page self.new ≡ frame_page after.now) }
         ensures err { OnErr result (frame_page self.new ≡ frame_page self.old) }
     {
-        let (Orientation::Portrait, Orientation::Portrait) = (self.orientation, after.orientation)
-        else {
+        if self.orientation != orientation || after.orientation != orientation {
             return self.catch_up(alloc, after);
-        };
+        }
         match self.bitmap.changed_between(&after.bitmap, first, end) {
             Some(region) => Ok(Some(self.take_lines(after, region)?)),
             None => Ok(None),

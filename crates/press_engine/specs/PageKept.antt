@@ -21,8 +21,8 @@ pub record OthersKeepThePage : Type 0 where
   pub keeps : (command : Token) (machine : Machine) → kind_may_change_page (kind_of command) ≡ false
       → (item : StepResult) × (trace_at macro_levels command machine ≡ item ∷ []) × (item.machine.state.page ≡ machine.state.page)
 
--- Where the first item of a command of the stream transfers rows, that is its only item, and the lines of an upright page beside those of
--- the cursor are the ones before.
+-- Where the first item of a command of the stream transfers rows, that is its only item, and the lines of the frame beside those of the
+-- cursor are the ones before.
 pub record RowsKeepOtherLines : Type 0 where
   pub keeps : (command : Token) (machine : Machine) → kind_transfers_rows (kind_of command) ≡ true
       → (item : StepResult) × (trace_at macro_levels command machine ≡ item ∷ []) × KeepsOtherLines machine.state item.machine.state

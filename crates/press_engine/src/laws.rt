@@ -42,8 +42,8 @@ pub fn others_keep_the_page()
     ensures { OthersKeepThePage }
 {}
 
-/// A command of the stream that transfers rows has one item. Where the page stands upright, it leaves the lines above the cursor before it
-/// as they are, and those from eight lines below that of the cursor behind it on, while neither is below the logical page.
+/// A command of the stream that transfers rows has one item. It leaves the lines of the frame above the cursor before it as they are, and
+/// those from eight lines below that of the cursor behind it on, while neither is below the logical page.
 pub fn rows_keep_other_lines()
     ensures { RowsKeepOtherLines }
 {}

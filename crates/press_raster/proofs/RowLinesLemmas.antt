@@ -1,4 +1,4 @@
--- The lines of an upright page that rows mark, one below the other.
+-- The lines of a frame that rows mark, one below the other.
 use Rattle.std.proofs.Common.{◌≡◌, ◌+◌, ◌-◌, ◌*◌, ◌/◌, ◌<◌, ◌≤◌, ◌⊎◌, ℕ, Bool, true, false, List, [], ◌∷◌, Option, Some, None, refl, ap, ◌∙◌, inl, inr, arith}
 use Rattle.std.specs.Prelude.{ℤ, pos, ◌+ℤ◌, if◌then◌else◌}
 use Rattle.std.proofs.lemmas.Bool.Decides.{nat_tests}
@@ -9,15 +9,14 @@ use Rattle.press_units.specs.declared.position.Resolution.TheVariants as print
 use Rattle.press_bits.specs.DotRule.{dot_after}
 use Rattle.press_bits.specs.Mark.{Row, marked_dot, painted, row_dot}
 use Rattle.press_bits.specs.Page.{Page, black_at}
-use Rattle.press_bits.specs.Patches.{AgreeBeside}
 use Rattle.press_bits.proofs.MarkLemmas.{black_at-painted, effect_where, height-painted, in_box, width-painted}
+use Rattle.press_canvas.specs.Changes.{AgreeBesideLines}
 use Rattle.press_cursor.specs.Bounds.{nearest_y}
 use Rattle.press_cursor.specs.declared.logical_page.LogicalPage.{LogicalPage}
 use Rattle.press_page.specs.Environment.{logical_page_of}
 use Rattle.press_page.specs.Place.{lines_below}
 use Rattle.press_page.specs.declared.environment.PageEnv.{PageEnv}
 use Rattle.press_page.specs.declared.media.Orientation.{Orientation}
-use Rattle.press_page.specs.declared.media.Orientation.TheVariants.{Portrait}
 use Rattle.press_page.specs.declared.place.FrameLines.{FrameLines}
 use Rattle.press_pattern.specs.Tiling.{tile_dot}
 use Rattle.press_pattern.specs.declared.brush.Brush.{Brush}
@@ -34,23 +33,19 @@ use Rattle.press_raster.specs.declared.settings.RasterSettings.{RasterSettings}
 use Rattle.press_raster.proofs.RowsReadyLemmas.{below_edge, below_edge_is, first_line, no_more_lines, size_is}
 use Rattle.press_raster.proofs.StripLemmas.{column_at, effect_at-strip_mark, line_at}
 
--- ---- a strip on an upright page
+-- ---- a strip of a frame
 
 outside_box : (x y w h column line : ℕ) → (line < y) ⊎ (y + h ≤ line) → in_box x y w h column line ≡ false
 outside_box x y w h column line out = grind (arith, nat_tests)
 
-upright_line : (orientation : Orientation) (width height x y : ℕ) → orientation ≡ Portrait → line_at orientation width height x y ≡ y
-upright_line orientation width height x y upright = ap (λ (o : Orientation). line_at o width height x y) upright
-
 beside_strip : (orientation : Orientation) (page : Page) (column : ℕ) (lines : FrameLines) (size : ℕ) (row : Row) (brush : Brush) (x y : ℕ) →
-    orientation ≡ Portrait → x < page.width → y < page.height → (y < lines.first) ⊎ (lines.first + lines.count ≤ y) →
+    x < page.width → y < page.height →
+    (let line = line_at orientation page.width page.height x y in (line < lines.first) ⊎ (lines.first + lines.count ≤ line)) →
     black_at (painted page (row_strip orientation page column lines size row brush)) x y ≡ black_at page x y
 unfolding marked_dot
-beside_strip orientation page column lines size row brush x y upright wide high out =
-    let line : line_at orientation page.width page.height x y ≡ y = upright_line orientation page.width page.height x y upright in
+beside_strip orientation page column lines size row brush x y wide high out =
     let missed : in_box column lines.first (size * row.dots) lines.count (column_at orientation page.width page.height x y) (line_at orientation page.width page.height x y) ≡ false =
-    ap (in_box column lines.first (size * row.dots) lines.count (column_at orientation page.width page.height x y)) line
-    ∙ outside_box column lines.first (size * row.dots) lines.count (column_at orientation page.width page.height x y) y out in
+    outside_box column lines.first (size * row.dots) lines.count (column_at orientation page.width page.height x y) (line_at orientation page.width page.height x y) out in
     black_at-painted page (row_strip orientation page column lines size row brush) x y wide high
     ∙ ap (λ effect. dot_after effect (black_at page x y))
     (effect_at-strip_mark orientation page.width page.height column lines.first (size * row.dots) lines.count (λ i. row_dot row.bits (i / size)) brush.tile brush.mode x y
@@ -77,7 +72,11 @@ most_size size (inl few) = omega (arith, few)
 most_size size (inr (inl six)) = omega (arith, six)
 most_size size (inr (inr eight)) = omega (arith, eight)
 
-module _ (environment : PageEnv) (settings : RasterSettings) (brush : Brush) (upright : environment.page_setup.orientation ≡ Portrait) where
+module _ (environment : PageEnv) (settings : RasterSettings) (brush : Brush) where
+  -- pages agree beside lines of the frame
+  abbrev pub Agree : (first end : ℕ) → (before after : Page) → Type 0
+  Agree = AgreeBesideLines environment.page_setup.orientation
+
   -- how far a place lies below the upper edge, and on which line
   abbrev pub edge : ℤ → ℕ
   edge y = below_edge (y +ℤ pos environment.margins.top)
@@ -91,7 +90,7 @@ module _ (environment : PageEnv) (settings : RasterSettings) (brush : Brush) (up
     pub within : edge after.cursor.y ≤ (logical_page_of environment).length
     pub width : after.page.width ≡ before.page.width
     pub height : after.page.height ≡ before.page.height
-    pub beside : AgreeBeside (line before.cursor.y) (line after.cursor.y + 8) before.page after.page
+    pub beside : Agree (line before.cursor.y) (line after.cursor.y + 8) before.page after.page
 
   none : (drawn : Drawn) (graphics : Option RasterGraphics) → edge drawn.cursor.y ≤ (logical_page_of environment).length →
       Leads drawn (record drawn { graphics = graphics })
@@ -112,9 +111,12 @@ module _ (environment : PageEnv) (settings : RasterSettings) (brush : Brush) (up
         width = other.width ∙ one.width;
         height = other.height ∙ one.height;
         beside = λ x y wide high out.
+            let same : line_at environment.page_setup.orientation second.page.width second.page.height x y
+            ≡ line_at environment.page_setup.orientation first.page.width first.page.height x y
+            = λ i. line_at environment.page_setup.orientation (one.width i) (one.height i) x y in
             other.beside x y (omega (arith, wide, one.width)) (omega (arith, high, one.height)) (elim out [
-              | inl above ↦ inl (omega (arith, above, down))
-              | inr below ↦ inr below
+              | inl above ↦ inl (omega (arith, above, down, same))
+              | inr below ↦ inr (omega (arith, below, same))
             ])
             ∙ one.beside x y wide high (elim out [
               | inl above ↦ inl above
@@ -128,7 +130,7 @@ module _ (environment : PageEnv) (settings : RasterSettings) (brush : Brush) (up
 
   marked : (y : ℤ) (method : Method) («data» : List ℕ) (on : RasterGraphics) (page : Page) →
       let after : Page = painted page (transfer_mark (record { environment = environment; y = y }) settings brush method «data» on page) in
-      (after.width ≡ page.width) × (after.height ≡ page.height) × AgreeBeside (line y) (line y + 8) page after
+      (after.width ≡ page.width) × (after.height ≡ page.height) × Agree (line y) (line y + 8) page after
   marked y method «data» on page =
       let place : RowPlace = record { environment = environment; y = y } in
       let size = dot_size settings.resolution environment.page_setup.resolution in
@@ -140,7 +142,7 @@ module _ (environment : PageEnv) (settings : RasterSettings) (brush : Brush) (up
         width-painted page mark,
         height-painted page mark,
         λ x n wide high out.
-            beside_strip environment.page_setup.orientation page corner.x (lines_below corner.y size) size (row_of_data place settings method «data» on) brush x n upright wide high
+            beside_strip environment.page_setup.orientation page corner.x (lines_below corner.y size) size (row_of_data place settings method «data» on) brush x n wide high
             (elim out [
               | inl above ↦ inl (omega (arith, above, first))
               | inr below ↦ inr (omega (arith, below, first, few, fewer))
@@ -149,14 +151,14 @@ module _ (environment : PageEnv) (settings : RasterSettings) (brush : Brush) (up
 
   row_page : (y : ℤ) (method : Method) («data» : List ℕ) (graphics : Option RasterGraphics) (page : Page) →
       ((page_at y method «data» graphics page).width ≡ page.width) × ((page_at y method «data» graphics page).height ≡ page.height)
-      × AgreeBeside (line y) (line y + 8) page (page_at y method «data» graphics page)
+      × Agree (line y) (line y + 8) page (page_at y method «data» graphics page)
   row_page y method «data» None page = (refl, refl, λ x n wide high out. refl)
   row_page y method «data» (Some on) page = either (is_below_height settings.source_height on.rows)
     where
       after : Page
       after = painted page (transfer_mark (record { environment = environment; y = y }) settings brush method «data» on page)
 
-      either : (takes : Bool) → let new : Page = if takes then after else page in (new.width ≡ page.width) × (new.height ≡ page.height) × AgreeBeside (line y) (line y + 8) page new
+      either : (takes : Bool) → let new : Page = if takes then after else page in (new.width ≡ page.width) × (new.height ≡ page.height) × Agree (line y) (line y + 8) page new
       either true = marked y method «data» on page
       either false = (refl, refl, λ x n wide high out. refl)
 
@@ -184,7 +186,7 @@ module _ (environment : PageEnv) (settings : RasterSettings) (brush : Brush) (up
       either true = row_leads row.0 row.1 drawn within
       either false = none drawn drawn.graphics within
 
-  -- what rows of an upright page leave as it was
+  -- what rows leave as it was
   pub rows_lead : (items : List Item) (drawn : Drawn) → edge drawn.cursor.y ≤ (logical_page_of environment).length → Leads drawn (with_items environment settings brush items drawn)
   rows_lead [] drawn within = none drawn drawn.graphics within
   rows_lead (item ∷ items) drawn within =

@@ -7,7 +7,7 @@ use Rattle.std.specs.Prelude.{ℤ, pos, ◌+ℤ◌, int_le, is_some, unwrap_or, 
 use Rattle.std.specs.Ordering.{int_eq}
 use Rattle.press_units.specs.Position.{dot_of, positions_per_dot}
 use Rattle.press_bits.specs.Page.{Page, black_at}
-use Rattle.press_bits.specs.Patches.{AgreeBeside}
+use Rattle.press_canvas.specs.Changes.{AgreeBesideLines}
 use Rattle.press_cmd.specs.Token.{Token, data_of}
 use Rattle.press_cursor.specs.Cursor.{is_left_of, is_right_of, at_least, at_most, pushed, popped}
 use Rattle.press_cursor.specs.Stack.{has_room, newest}
@@ -30,8 +30,6 @@ use Rattle.press_pattern.specs.Store.{with_definition}
 use Rattle.press_page.specs.PageSetup.{logical_length}
 use Rattle.press_page.specs.Place.{lines_below}
 use Rattle.press_page.specs.declared.environment.PageEnv.{PageEnv}
-use Rattle.press_page.specs.declared.media.Orientation.{Orientation}
-use Rattle.press_page.specs.declared.media.Orientation.TheVariants.{Portrait, Landscape, ReversePortrait, ReverseLandscape}
 use Rattle.press_raster.specs.Graphics.{passed, takes_rows}
 use Rattle.press_raster.specs.Rows.{drawn_rows}
 use Rattle.press_raster.specs.Settings.{items_of}
@@ -41,7 +39,7 @@ use Rattle.press_table.specs.Closing.{page_now}
 use Rattle.press_table.specs.Place.{blank_page}
 use Rattle.press_table.specs.Raster.{brush_now, drawn_now, offset_by, start_at, start_of, start_raster, transfer, transfer_rows, with_rows}
 use Rattle.press_table.specs.Table.{value_of, whole_part_of, table_row, effect_on, is_recorded, is_skipped}
-use Rattle.press_table.specs.PageKept.{KeepsOtherLines, OtherLinesStay, PageStays, is_upright, kind_transfers_rows, may_change_page, most_dot_lines, row_line, transfers_rows}
+use Rattle.press_table.specs.PageKept.{KeepsOtherLines, OtherLinesStay, PageStays, kind_transfers_rows, may_change_page, most_dot_lines, row_line, transfers_rows}
 
 either : (b : Bool) (before s t : State) → s.page ≡ before.page → t.page ≡ before.page → (cond b s t).page ≡ before.page
 either true before s t first second = first
@@ -177,16 +175,6 @@ row_keeps_the_page source command state keeps =
 
 -- ---- rows that are transferred
 
-upright_is : (orientation : Orientation) → is_upright orientation ≡ true → orientation ≡ Portrait
-upright_is Portrait is = refl
-upright_is Landscape is = absurd (true≢false (sym is))
-upright_is ReversePortrait is = absurd (true≢false (sym is))
-upright_is ReverseLandscape is = absurd (true≢false (sym is))
-
-both_hold : (a b : Bool) → (a && b) ≡ true → (a ≡ true) × (b ≡ true)
-both_hold true b is = (refl, is)
-both_hold false b is = absurd (true≢false (sym is))
-
 line_if : (holds : Bool) (line n : ℕ) → (if holds then Some line else None) ≡ Some n → (holds ≡ true) × (n ≡ line)
 line_if true line n is = (refl, sym (same_Some line n is))
 line_if false line n is = cc
@@ -196,34 +184,33 @@ not_below y top length is =
     let edge = below_edge_is (y +ℤ pos top) in
     grind (arith, ints)
 
--- where a line of a row is, it is upright, and the row begins on it
+-- where a line of a row is, the row begins on it
 row_line_is : (environment : PageEnv) (y : ℤ) (n : ℕ) → row_line environment y ≡ Some n →
-    (environment.page_setup.orientation ≡ Portrait)
-    × (below_edge (y +ℤ pos environment.margins.top) ≤ logical_length environment.page_setup)
+    (below_edge (y +ℤ pos environment.margins.top) ≤ logical_length environment.page_setup)
     × (n ≡ below_edge (y +ℤ pos environment.margins.top) / positions_per_dot environment.page_setup.resolution)
 row_line_is environment y n is =
     let setup = environment.page_setup in
     let top = environment.margins.top in
-    let found = line_if (is_upright setup.orientation && int_le (y +ℤ pos top) (pos (logical_length setup))) (lines_below (dot_of (y +ℤ pos top) setup.resolution) 0).first n is in
-    let holds = both_hold (is_upright setup.orientation) (int_le (y +ℤ pos top) (pos (logical_length setup))) found.0 in
-    (upright_is setup.orientation holds.0, not_below y top (logical_length setup) holds.1, found.1 ∙ first_line (y +ℤ pos top) setup.resolution 0)
+    let found = line_if (int_le (y +ℤ pos top) (pos (logical_length setup))) (lines_below (dot_of (y +ℤ pos top) setup.resolution) 0).first n is in
+    (not_below y top (logical_length setup) found.0, found.1 ∙ first_line (y +ℤ pos top) setup.resolution 0)
 
--- rows of an upright page
+-- rows that are transferred
 rows_keep : (bytes : List ℕ) (state : State) → KeepsOtherLines state (with_rows bytes state)
 rows_keep bytes state first last before next first_is last_is before_is next_is =
     let environment = state.environment in
+    let orientation = environment.page_setup.orientation in
     let settings = state.drawing.raster in
     let after = drawn_rows environment settings (brush_now state) bytes (drawn_now state) in
     let one = row_line_is environment state.cursor.y first first_is in
     let two = row_line_is environment after.cursor.y last last_is in
-    let leads = rows_lead environment settings (brush_now state) one.0 (items_of settings.coding bytes) (drawn_now state) one.1 in
+    let leads = rows_lead environment settings (brush_now state) (items_of settings.coding bytes) (drawn_now state) one.0 in
     let old : page_now state ≡ before = ap (λ (page : Option Page). unwrap_or page (blank_page environment.page_setup)) before_is in
     let new : after.page ≡ next = same_Some after.page next next_is in
-    subst (λ (page : Page). AgreeBeside first (last + most_dot_lines) page next) old
-    (subst (AgreeBeside first (last + most_dot_lines) (page_now state)) new
+    subst (λ (page : Page). AgreeBesideLines orientation first (last + most_dot_lines) page next) old
+    (subst (AgreeBesideLines orientation first (last + most_dot_lines) (page_now state)) new
     (λ x y wide high out. leads.beside x y wide high (elim out [
-      | inl above ↦ inl (omega (arith, above, one.2))
-      | inr below ↦ inr (omega (arith, below, two.2))
+      | inl above ↦ inl (omega (arith, above, one.1))
+      | inr below ↦ inr (omega (arith, below, two.1))
     ])))
 
 page_stays : (before after : State) → after.page ≡ before.page → KeepsOtherLines before after
@@ -247,7 +234,8 @@ transferred_keeps : (bytes : List ℕ) (before state : State) → state.page ≡
 transferred_keeps bytes before state page y environment =
     lines_either (takes_rows state.drawing.raster bytes state.graphics) before _ _
     (λ first last old next first_is last_is old_is next_is.
-    rows_keep bytes state first last old next ((λ i. row_line (environment i) (y i)) ∙ first_is) last_is (page ∙ old_is) next_is)
+    subst (λ (one : PageEnv). AgreeBesideLines one.page_setup.orientation first (last + most_dot_lines) old next) environment
+    (rows_keep bytes state first last old next ((λ i. row_line (environment i) (y i)) ∙ first_is) last_is (page ∙ old_is) next_is))
     (page_stays before (record state { graphics = passed state.drawing.raster bytes state.graphics }) page)
 
 transfer_keeps : (bytes : List ℕ) (state : State) → OtherLinesStay state (transfer bytes state)

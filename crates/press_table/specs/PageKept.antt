@@ -1,13 +1,11 @@
 -- Which commands may change the open page, and which of its lines.
-use Rattle.std.specs.Prelude.{◌≡◌, ◌+◌, ◌&&◌, ℕ, ℤ, pos, ◌+ℤ◌, int_le, Bool, true, false, if◌then◌else◌, Option, Some, None}
+use Rattle.std.specs.Prelude.{◌≡◌, ◌+◌, ℕ, ℤ, pos, ◌+ℤ◌, int_le, Bool, true, false, if◌then◌else◌, Option, Some, None}
 use Rattle.press_bits.specs.Page.{Page}
-use Rattle.press_bits.specs.Patches.{AgreeBeside}
+use Rattle.press_canvas.specs.Changes.{AgreeBesideLines}
 use Rattle.press_cmd.specs.declared.variant.Kind.{Kind}
 use Rattle.press_page.specs.PageSetup.{logical_length}
 use Rattle.press_page.specs.Place.{cursor_dot, lines_below}
 use Rattle.press_page.specs.declared.environment.PageEnv.{PageEnv}
-use Rattle.press_page.specs.declared.media.Orientation.{Orientation}
-use Rattle.press_page.specs.declared.media.Orientation.TheVariants.{Portrait}
 use Rattle.press_table.specs.declared.operation.Operation.{Operation}
 use Rattle.press_table.specs.declared.operation.Operation.TheVariants as operations
 use Rattle.press_table.specs.declared.state.State.{State}
@@ -58,26 +56,21 @@ kind_transfers_rows kind = transfers_rows (operation_of kind)
 abbrev pub most_dot_lines : ℕ
 most_dot_lines = 8
 
--- a frame that stands upright is the page
-abbrev pub is_upright : Orientation → Bool
-is_upright Portrait = true
-is_upright other = false
-
--- The line of an upright page on which a row begins at this y, if it begins no lower than the logical page ends.
+-- The line of the frame on which a row begins at this y, if it begins no lower than the logical page ends.
 abbrev pub row_line : PageEnv → (y : ℤ) → Option ℕ
 row_line environment y =
     let setup = environment.page_setup in
     let top = environment.margins.top in
-    if is_upright setup.orientation && int_le (y +ℤ pos top) (pos (logical_length setup))
+    if int_le (y +ℤ pos top) (pos (logical_length setup))
     then Some (lines_below (cursor_dot setup top (record { x = 0; y = y })).y 0).first
     else None
 
--- An upright page agrees above the line of the cursor before, and from as many lines below that of the cursor behind on as a dot of a row is high at
--- most, where neither stands below the logical page.
+-- A page agrees where the lines of its frame stand above that of the cursor before, and from as many lines below that of the cursor behind on as a dot
+-- of a row is high at most, where neither stands below the logical page.
 abbrev pub KeepsOtherLines : State → State → Type 0
 KeepsOtherLines before after = (first last : ℕ) → (page next : Page)
     → row_line before.environment before.cursor.y ≡ Some first → row_line after.environment after.cursor.y ≡ Some last
-    → before.page ≡ Some page → after.page ≡ Some next → AgreeBeside first (last + most_dot_lines) page next
+    → before.page ≡ Some page → after.page ≡ Some next → AgreeBesideLines before.environment.page_setup.orientation first (last + most_dot_lines) page next
 
 -- nothing goes out, no body starts, and the other lines of the page are those before
 abbrev pub OtherLinesStay : State → Effect → Type 0

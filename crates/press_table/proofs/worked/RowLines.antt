@@ -18,6 +18,7 @@ above_the_text = refl
 below_the_text : map (row_line factory) (pos 75599 ∷ pos 75600 ∷ pos 75601 ∷ []) ≡ Some 3299 ∷ Some 3300 ∷ None ∷ []
 below_the_text = refl
 
--- where the page does not stand upright there is none
-turned : row_line (record factory { page_setup = record factory.page_setup { orientation = Landscape } }) (pos 0) ≡ None
+-- the frame of a page that is turned has 2,550 lines: at the top margin, on the last line, at the lower edge, and below it
+turned : map (row_line (record factory { page_setup = record factory.page_setup { orientation = Landscape } })) (pos 0 ∷ pos 57599 ∷ pos 57600 ∷ pos 57601 ∷ [])
+    ≡ Some 150 ∷ Some 2549 ∷ Some 2550 ∷ None ∷ []
 turned = refl
