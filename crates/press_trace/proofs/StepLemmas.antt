@@ -1,9 +1,11 @@
 -- A step that was taken, and what is told of it.
-use Rattle.std.proofs.Common.{◌≡◌, ◌∙◌, ◌≤◌, ◌&&◌, ◌↔◌, not, ℕ, List, [], ◌∷◌, length, Bool, true, false, cond, Option, Some, None, IfSome, IsSome, IsTrue, Ok, is_some, refl, sym, ap, subst, inl, inr, arith}
+use Rattle.std.proofs.Common.{◌≡◌, ◌∙◌, ◌+◌, ◌≤◌, ◌&&◌, ◌↔◌, not, ℕ, List, [], ◌∷◌, length, Bool, true, false, cond, Option, Some, None, IfSome, IsSome, IsTrue, Ok, is_some, refl, sym, ap, subst, inl, inr, arith}
 use Rattle.std.specs.Prelude.{if◌then◌else◌}
 use Rattle.std.proofs.lemmas.Bool.{true≢false, false≢true}
 use Rattle.serde_json.specs.Data.{Data}
 use Rattle.press_bits.specs.Page.{Page}
+use Rattle.press_canvas.specs.Changes.{AgreeBesideLines}
+use Rattle.press_page.specs.declared.media.Orientation.{Orientation}
 use Rattle.press_cmd.specs.Kinds.{kind_of}
 use Rattle.press_cmd.specs.Token.{Token, Uel}
 use Rattle.press_cmd.specs.declared.variant.Kind.{Kind}
@@ -16,7 +18,7 @@ use Rattle.press_engine.specs.declared.machine.Machine.{Machine}
 use Rattle.press_engine.specs.declared.view.View.{View}
 use Rattle.press_engine.specs.Engine.{IsOfKind, view_of}
 use Rattle.press_engine.specs.Machine.{StepResult, last_of, macro_levels}
-use Rattle.press_table.specs.PageKept.{KeepsOtherLines, kind_may_change_page, kind_transfers_rows, row_line}
+use Rattle.press_table.specs.PageKept.{KeepsOtherLines, kind_may_change_page, kind_transfers_rows, most_dot_lines, row_line}
 use Rattle.press_table.specs.declared.state.State.{State}
 use Rattle.press_engine.specs.PageKept.{TakesFirst, OthersKeepThePage, RowsKeepOtherLines}
 use Rattle.press_engine.specs.Stack.{HasNext, continuation}
@@ -192,6 +194,10 @@ not_true : (b : Bool) → not b ≡ true → b ≡ false
 not_true true is = absurd (true≢false (sym is))
 not_true false is = refl
 
+-- a frame lies as that of the page that is printed
+abbrev pub LiesSo : Orientation → State → Type 0
+LiesSo orientation state = orientation ≡ state.environment.page_setup.orientation
+
 -- a line that was found is that of a row at the cursor
 abbrev pub IsLineAt : Option ℕ → State → Type 0
 IsLineAt found state = IfSome found (λ line. row_line state.environment state.cursor.y ≡ Some line)
@@ -203,19 +209,27 @@ line_at (Some line) view given machine at is here =
     let same : view ≡ view_of view.stack machine = subst (λ (some : Option Machine). IfSome some (λ machine. view ≡ view_of view.stack machine)) here is in
     ap (λ (one : View). row_line one.environment one.y.0) (sym same) ∙ at
 
-lines_kept : (before behind : Option ℕ) (old new : State) → IsLineAt before old → IsLineAt behind new
-    → KeepsOtherLines old new → KeepsRest (lines_between before behind) old.page new.page
-lines_kept (Some first) (Some last) old new one other keeps = λ page next is next_is. keeps first last page next one other is next_is
-lines_kept (Some first) None old new one other keeps = tt
-lines_kept None behind old new one other keeps = tt
+-- a frame that is seen lies as that of the machine
+pub lies_so : (view : View) (given : Option Machine) (machine : Machine)
+    → IfSome given (λ machine. view ≡ view_of view.stack machine) → given ≡ Some machine → LiesSo view.environment.page_setup.orientation machine.state
+lies_so view given machine here is =
+    ap (λ (one : View). one.environment.page_setup.orientation) (subst (λ (some : Option Machine). IfSome some (λ machine. view ≡ view_of view.stack machine)) is here)
+
+lines_kept : (orientation : Orientation) (before behind : Option ℕ) (old new : State) → LiesSo orientation old → IsLineAt before old → IsLineAt behind new
+    → KeepsOtherLines old new → KeepsRest (lines_between orientation before behind) old.page new.page
+lines_kept orientation (Some first) (Some last) old new lies one other keeps = λ page next is next_is.
+    subst (λ (o : Orientation). AgreeBesideLines o first (last + most_dot_lines) page next) (sym lies) (keeps first last page next one other is next_is)
+lines_kept orientation (Some first) None old new lies one other keeps = tt
+lines_kept orientation None behind old new lies one other keeps = tt
 
 -- what a step leaves of the page
 pub rest_is_kept : OthersKeepThePage → RowsKeepOtherLines
-    → (old new : JobState) (item : StepResult) (kind : Kind) (does : Does old item kind new) (outside : Bool) (before behind : Option ℕ)
-    → IsTrue outside ↔ (old.bodies ≡ [])
+    → (old new : JobState) (item : StepResult) (kind : Kind) (does : Does old item kind new) (outside : Bool) (orientation : Orientation)
+    (before behind : Option ℕ)
+    → IsTrue outside ↔ (old.bodies ≡ []) → LiesSo orientation does.from.state
     → IsLineAt before does.from.state → IsLineAt behind item.machine.state
-    → KeepsRest (touched_by outside kind before behind) does.from.state.page item.machine.state.page
-rest_is_kept law rows old new item kind does outside before behind tells one other =
+    → KeepsRest (touched_by outside kind orientation before behind) does.from.state.page item.machine.state.page
+rest_is_kept law rows old new item kind does outside orientation before behind tells lies one other =
     either (outside && not (kind_may_change_page kind)) (outside && kind_transfers_rows kind)
     (λ is. let holds = both_hold outside (not (kind_may_change_page kind)) is in kept (tells.0 holds.0) (not_true (kind_may_change_page kind) holds.1))
     (λ is. let holds = both_hold outside (kind_transfers_rows kind) is in lines (tells.0 holds.0) holds.1)
@@ -225,15 +239,15 @@ rest_is_kept law rows old new item kind does outside before behind tells one oth
         outer_step (does.from.state.page ≡ item.machine.state.page) old new item kind does idle
         (λ command is. sym (command_keeps law old new item kind does command is idle keeps))
 
-    lines : old.bodies ≡ [] → kind_transfers_rows kind ≡ true → KeepsRest (lines_between before behind) does.from.state.page item.machine.state.page
+    lines : old.bodies ≡ [] → kind_transfers_rows kind ≡ true → KeepsRest (lines_between orientation before behind) does.from.state.page item.machine.state.page
     lines idle transfers =
-        lines_kept before behind does.from.state item.machine.state one other
+        lines_kept orientation before behind does.from.state item.machine.state lies one other
         (outer_step (KeepsOtherLines does.from.state item.machine.state) old new item kind does idle
         (λ command is. command_keeps_lines law rows old new item kind does command is idle transfers))
 
     either : (nothing rows : Bool) → (nothing ≡ true → does.from.state.page ≡ item.machine.state.page)
-        → (rows ≡ true → KeepsRest (lines_between before behind) does.from.state.page item.machine.state.page)
-        → KeepsRest (if nothing then Nothing else if rows then lines_between before behind else Whole) does.from.state.page item.machine.state.page
+        → (rows ≡ true → KeepsRest (lines_between orientation before behind) does.from.state.page item.machine.state.page)
+        → KeepsRest (if nothing then Nothing else if rows then lines_between orientation before behind else Whole) does.from.state.page item.machine.state.page
     either true rows first second = first refl
     either false true first second = second refl
     either false false first second = tt

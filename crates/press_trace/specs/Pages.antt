@@ -5,8 +5,9 @@ use Rattle.hex.specs.Hex.{encode_upper}
 use Rattle.serde_json.specs.Data.{Data, null, number, unsigned, string, array, object, item, no_items, no_members, put}
 use Rattle.serde_json.specs.View.{items_of}
 use Rattle.press_bits.specs.Page.{Page, HasNoDotOutside, blank}
-use Rattle.press_bits.specs.Patches.{AgreeBeside, ChangedIn}
+use Rattle.press_bits.specs.Patches.{ChangedIn}
 use Rattle.press_bits.specs.declared.region.Region.{Region}
+use Rattle.press_canvas.specs.Changes.{AgreeBesideLines}
 use Rattle.press_pbm.specs.Spelling.{line_bytes}
 use Rattle.press_trace.specs.declared.touched.Touched.{Touched}
 use Rattle.press_trace.specs.declared.touched.Touched.TheVariants.{Nothing, Lines, Whole}
@@ -56,9 +57,10 @@ IsPageTold None None opened told = (opened ≡ None) × (told ≡ None)
 IsPageTold (Some before) None opened told = (opened ≡ None) × (told ≡ Some null)
 IsPageTold before (Some after) opened told = (from : Page) × StartsFrom before after from opened × Follows from after told
 
--- What a step that touched this leaves of the open page: all, where it touched nothing; where it touched lines, a page that was open before
--- it and is open behind it agrees beside them.
+-- What a step that touched this leaves of the open page: all, where it touched nothing; where it touched lines of the frame, a page that was
+-- open before it and is open behind it agrees beside them.
 abbrev pub KeepsRest : Touched → (before after : Option Page) → Type 0
 KeepsRest Nothing before after = before ≡ after
-KeepsRest (Lines first end) before after = (page next : Page) → before ≡ Some page → after ≡ Some next → AgreeBeside first end page next
+KeepsRest (Lines orientation first end) before after =
+    (page next : Page) → before ≡ Some page → after ≡ Some next → AgreeBesideLines orientation first end page next
 KeepsRest Whole before after = ⊤

@@ -8,6 +8,7 @@ use Rattle.press_engine.specs.declared.step_output.StepOutput.{StepOutput}
 use Rattle.press_engine.specs.declared.machine.Machine.{Machine}
 use Rattle.press_engine.specs.Machine.{StepResult}
 use Rattle.press_engine.specs.Engine.{view_of}
+use Rattle.press_page.specs.declared.media.Orientation.{Orientation}
 use Rattle.press_table.specs.Outputs.{all_outputs}
 use Rattle.press_table.specs.PageKept.{kind_may_change_page, kind_transfers_rows, most_dot_lines}
 use Rattle.press_stream.specs.State.{opened, with_piece}
@@ -58,16 +59,16 @@ pub record IsSound (tracer : Tracer) : Type 0 where
   pub shown : (machine : Machine) → tracer.job.machine ≡ Some machine → tracer.page ≡ machine.state.page
   pub kept : IsKept (told_before tracer) tracer.before tracer.page
 
--- What a step may have touched: nothing, outside of bodies, by a kind that changes no page; lines, by rows that are transferred where the
--- page stands upright; else all.
-abbrev pub lines_between : (before behind : Option ℕ) → Touched
-lines_between (Some first) (Some last) = Lines first (last + most_dot_lines)
-lines_between before behind = Whole
+-- What a step may have touched: nothing, outside of bodies, by a kind that changes no page; lines of the frame as it lay before, by rows that
+-- are transferred; else all.
+abbrev pub lines_between : Orientation → (before behind : Option ℕ) → Touched
+lines_between orientation (Some first) (Some last) = Lines orientation first (last + most_dot_lines)
+lines_between orientation before behind = Whole
 
-abbrev pub touched_by : (outside : Bool) → Kind → (before behind : Option ℕ) → Touched
-touched_by outside kind before behind =
+abbrev pub touched_by : (outside : Bool) → Kind → Orientation → (before behind : Option ℕ) → Touched
+touched_by outside kind orientation before behind =
     if outside && not (kind_may_change_page kind) then Nothing
-    else if outside && kind_transfers_rows kind then lines_between before behind else Whole
+    else if outside && kind_transfers_rows kind then lines_between orientation before behind else Whole
 
 -- This is the machine behind a step, which may have touched this of the page.
 pub record Shows (tracer : Tracer) (touched : Touched) (machine : Machine) : Type 0 where

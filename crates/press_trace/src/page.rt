@@ -109,7 +109,11 @@ fn catch_up(
 {
     match touched {
         Touched::Nothing => Ok(None),
-        Touched::Lines { first, end } => page.catch_up_between(alloc, after, first, end),
+        Touched::Lines {
+            orientation,
+            first,
+            end,
+        } => page.catch_up_between(alloc, after, orientation, first, end),
         Touched::Whole => page.catch_up(alloc, after),
     }
 }

@@ -14,8 +14,12 @@ use press_page::Orientation;
 pub(crate) enum Touched {
     /// None of them, and the page is still open.
     Nothing,
-    /// Those from line `first` on and before line `end`, of a page that is still open.
-    Lines { first: u32, end: u32 },
+    /// Those from line `first` on and before line `end` of the frame that lies so, of a page that is still open.
+    Lines {
+        orientation: Orientation,
+        first: u32,
+        end: u32,
+    },
     /// Any of them; or another page is open, or none.
     Whole,
 }
@@ -26,7 +30,7 @@ const MOST_DOT_LINES: u32 = 8;
 /// Places of the cursor, in positions, are nearer to the top margin than this.
 const FARTHEST: u64 = 1 << 33;
 
-/// The line of an upright page on which a row that is transferred now begins.
+/// The line of the frame on which a row that is transferred now begins.
 pub(crate) fn row_line(view: &View<'_>) -> Option<u32>
     ensures line { IfSome result
         (λ line. row_line view.now.environment view.now.y.0 ≡ Some line) }
@@ -35,26 +39,24 @@ pub(crate) fn row_line(view: &View<'_>) -> Option<u32>
     let setup = view.environment.page_setup;
     let y = view.y.0;
     let lower_edge = i64::from(setup.logical_length()) - i64::from(view.environment.margins.top);
-    if setup.orientation != Orientation::Portrait
-        || y > lower_edge
-        || y.unsigned_abs() >= FARTHEST
-    {
+    if y > lower_edge || y.unsigned_abs() >= FARTHEST {
         return None;
     }
     let dot = view.environment.cursor_dot(CursorPosition { x: 0, y });
     Some(dot.lines(0).first)
 }
 
-/// What a step may have touched that took a command of this kind, outside of bodies or in one, by the lines of a row before it and behind
-/// it.
+/// What a step may have touched that took a command of this kind, outside of bodies or in one, by how the frame lay and the line of a row
+/// before it, and that behind it.
 pub(crate) fn touched_by(
     outside: bool,
     kind: Kind,
+    orientation: Orientation,
     before: Option<u32>,
     behind: Option<u32>,
 ) -> Touched
     requires { IfSome behind (λ line. line < 2 ^ 31) }
-    ensures { result ≡ touched_by outside kind before behind }
+    ensures { result ≡ touched_by outside kind orientation before behind }
 {
     if outside && !may_change_page(kind) {
         return Touched::Nothing;
@@ -64,6 +66,7 @@ pub(crate) fn touched_by(
     }
     match (before, behind) {
         (Some(first), Some(last)) => Touched::Lines {
+            orientation,
             first,
             end: last + MOST_DOT_LINES,
         },

@@ -83,13 +83,15 @@ impl Tracer {
     {
         let outside = self.job.is_idle();
         let held = self.job.held();
-        let before = row_line(&self.job.view());
+        let view = self.job.view();
+        let orientation = view.environment.page_setup.orientation;
+        let before = row_line(&view);
         match self.job.take_step() {
             Ok(JobStep::Ran(step)) => {
                 self.place = self.place_behind(outside, held);
                 let behind = row_line(&self.job.view());
-                let line = self.tell(&step, touched_by(outside, step.kind, before, behind))?;
-                Ok(Some(line))
+                let touched = touched_by(outside, step.kind, orientation, before, behind);
+                Ok(Some(self.tell(&step, touched)?))
             }
             Ok(_) => Ok(None),
             Err(_) => Err(AllocError),

@@ -10,7 +10,7 @@ use Rattle.press_trace.specs.declared.tracer.Tracer.{Tracer}
 use Rattle.press_trace.specs.Pages.{KeepsRest}
 use Rattle.press_trace.specs.Tracing.{IsSound, Shows, TellsOne, place_if, told_before, touched_by}
 use Rattle.press_trace.specs.declared.touched.Touched.{Touched}
-use Rattle.press_trace.proofs.StepLemmas.{fewer_held, kept_now, kept_page, kept_told, line_at, place_is, rest_is_kept, step_did}
+use Rattle.press_trace.proofs.StepLemmas.{fewer_held, kept_now, kept_page, kept_told, lies_so, line_at, place_is, rest_is_kept, step_did}
 use Rattle.press_trace.proofs.tracer.Tracer.next_line.Goals as goal
 use Rattle.press_trace.proofs.tracer.Tracer.next_line.Goals.{After-touched_by}
 
@@ -38,13 +38,15 @@ shows c =
     let outside = c.is_idle-outside.result in
     let one = c.row_line-before.result in
     let other = c.row_line-behind.result in
-    let rest : KeepsRest (touched_by outside kind one other) does.from.state.page machine.state.page =
-    rest_is_kept others_keep_the_page rows_keep_other_lines old.job c.take_step.new.self item kind does outside one other c.is_idle-outside.ensures.none
-    (line_at one c.view.result old.job.machine does.from c.row_line-before.ensures.line c.view.ensures.view does.starts)
+    let orientation = c.view-view.result.environment.page_setup.orientation in
+    let rest : KeepsRest (touched_by outside kind orientation one other) does.from.state.page machine.state.page =
+    rest_is_kept others_keep_the_page rows_keep_other_lines old.job c.take_step.new.self item kind does outside orientation one other c.is_idle-outside.ensures.none
+    (lies_so c.view-view.result old.job.machine does.from c.view-view.ensures.view does.starts)
+    (line_at one c.view-view.result old.job.machine does.from c.row_line-before.ensures.line c.view-view.ensures.view does.starts)
     (line_at other c.view-in-Ok-Ran.result c.take_step.new.self.machine machine c.row_line-behind.ensures.line c.view-in-Ok-Ran.ensures.view does.ends) in record {
       running = does.ends;
       keeps = subst (λ (touched : Touched). KeepsRest touched old.page machine.state.page) (sym c.touched_by.ensures)
-          (subst (λ (page : Option Page). KeepsRest (touched_by outside kind one other) page machine.state.page) (sym (c.requires.shown does.from does.starts)) rest);
+          (subst (λ (page : Option Page). KeepsRest (touched_by outside kind orientation one other) page machine.state.page) (sym (c.requires.shown does.from does.starts)) rest);
     }
 
 pub tell-requires : goal.tell-requires
