@@ -21,7 +21,7 @@ ended-used : (body : List Token) (rest : List Activation) (activation : Activati
 ended-used [] rest activation run is = refl
 ended-used (command ∷ more) rest activation run is = absurd cc
 
-ended-not : (body : List Token) (rest : List Activation) (activation : Activation) (run : StepResult) → used_up body ≡ false
+pub ended-not : (body : List Token) (rest : List Activation) (activation : Activation) (run : StepResult) → used_up body ≡ false
     → ended_by body rest activation (unwind rest) run ≡ record { item = run; activations = activation ∷ rest }
 ended-not [] rest activation run is = absurd cc
 ended-not (command ∷ more) rest activation run is = refl

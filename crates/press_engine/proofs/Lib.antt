@@ -6,6 +6,7 @@ pub mod DepthLaws
 pub mod EndsLemmas
 pub mod FoldLaws
 pub mod ItemsLemmas
+pub mod RunningLaws
 pub mod Runs
 pub mod SendsLemmas
 pub mod StackLaws

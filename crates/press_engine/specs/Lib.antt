@@ -9,6 +9,7 @@ pub mod PageKept
 pub mod Steps
 pub mod Machine
 pub mod Passing
+pub mod Running
 pub mod Stack
 pub mod Stepping
 pub mod Trace

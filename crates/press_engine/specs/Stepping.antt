@@ -1,17 +1,19 @@
 -- What steps of the code stand for.
-use Rattle.std.specs.Prelude.{◌≡◌, ◌≢◌, ◌⊎◌, List, [], ◌∷◌, ◌++◌, Bool, true, false}
+use Rattle.std.specs.Prelude.{◌≡◌, ◌≢◌, ◌⊎◌, ℕ, List, [], ◌∷◌, ◌++◌, Bool, true, false, Option, Some, None}
 use Rattle.press_cmd.specs.Token.{Token}
 use Rattle.press_table.specs.declared.effect.Effect.{Effect}
 use Rattle.press_table.specs.declared.effect.Sent.{Sent}
 use Rattle.press_table.specs.declared.state.State.{State}
 use Rattle.press_table.specs.Effects.{effect_of}
+use Rattle.press_table.specs.Memory.{TakesMemory}
 use Rattle.press_table.specs.Outcome as outcome
 use Rattle.press_table.specs.Outputs.{all_outputs}
 use Rattle.press_table.specs.Table.{effect_on}
 use Rattle.press_engine.specs.declared.activation.Activation.{Activation}
 use Rattle.press_engine.specs.declared.machine.Machine.{Machine}
-use Rattle.press_engine.specs.Begun.{Begun, end_of, source_in, begins}
-use Rattle.press_engine.specs.Machine.{StepResult, then_run, with_state, taken, macro_levels}
+use Rattle.press_engine.specs.Begun.{Begun, end_of, begun_only, begun, source_in, begins}
+use Rattle.press_engine.specs.Changing.{OnlyChanges}
+use Rattle.press_engine.specs.Machine.{StepResult, silent, then_run, with_state, taken, macro_levels}
 use Rattle.press_engine.specs.Stack.{continuation, EndsOverlay}
 use Rattle.press_engine.specs.Trace.{trace_at}
 
@@ -28,11 +30,22 @@ is_top_used_up (activation ∷ activations) = used_up activation.body
 abbrev pub first_effect : Activation → Token → State → outcome.Effect
 first_effect activation command state = effect_on (source_in activation.in_overlay activation.macro_levels) command state
 
--- The first command of a body is taken: the effect of its row, and one more step.
-abbrev pub TakesFirst : Activation → Token → (old : Machine) → Effect → (new : Machine) → Type 0
-TakesFirst activation command old effect new =
+-- The first command of a body is taken: it does no more than change the machine; or there is the effect of its row, and one more step.
+abbrev pub TakesFirst : Activation → Token → (old : Machine) → Option Effect → (new : Machine) → Type 0
+TakesFirst activation command old None new = OnlyChanges command old new
+TakesFirst activation command old (Some effect) new =
     (effect_of new.state effect ≡ first_effect activation command old.state)
     × (new ≡ with_state new.state (taken command old))
+
+-- what such a command begins, by its effect, if it does more
+abbrev pub begun_by : Bool → (macro_levels : ℕ) → Option Effect → Machine → Begun
+begun_by in_overlay levels None machine = begun_only (silent machine)
+begun_by in_overlay levels (Some effect) machine = begun in_overlay levels machine (effect_of machine.state effect)
+
+-- the effect may take memory, if there is one
+abbrev pub MayTakeMemory : Option Effect → State → Type 0
+MayTakeMemory None state = ⊥
+MayTakeMemory (Some effect) state = TakesMemory (effect_of state effect)
 
 -- A step done: its item, and the bodies that still run, of which the innermost is not used up.
 pub record Stepped : Type 0 where

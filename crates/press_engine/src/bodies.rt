@@ -54,6 +54,7 @@ impl Bodies {
     ghost use Rattle.press_table.specs.Memory.{TakesMemory};
     ghost use Rattle.press_engine.specs.Engine.{StepsTo, InnerTakesMemory};
     ghost use Rattle.press_engine.specs.Laws.{most_bodies};
+    ghost use Rattle.press_engine.specs.Running.{RunsTo, ComesToTakeMemory};
     ghost use Rattle.press_engine.specs.Machine.{macro_levels};
     ghost use Rattle.press_engine.specs.Stack.{HasNext, IsReady, continuation};
     ghost use Rattle.press_table.specs.Table.{effect_on};
@@ -128,6 +129,32 @@ impl Bodies {
         ensures memory { IsErr result → InnerTakesMemory self.old machine.old }
     {
         match machine.step_inner(alloc, &mut self.activations) {
+            Ok(sent) => Ok(StepOutput {
+                kind: machine.last.kind(),
+                sent,
+            }),
+            Err(error) => {
+                self.activations.clear();
+                Err(error)
+            }
+        }
+    }
+
+    /// Takes the first commands of the innermost body at once, as long as each does no more than change the machine and another is left
+    /// in it, and then a step, of which it answers what goes out. Where memory ran out no body runs.
+    #[inline(always)]
+    pub fn run_inner(
+        &mut self,
+        machine: &mut Machine,
+        alloc: Global,
+    ) -> Result<StepOutput, AllocError>
+        requires running { self.old ≢ [] }
+        ensures runs { MatchResult result
+            (λ step. RunsTo self.old machine.old step machine.new self.new)
+            (λ _. self.new ≡ []) }
+        ensures memory { IsErr result → ComesToTakeMemory self.old machine.old }
+    {
+        match machine.run_inner(alloc, &mut self.activations) {
             Ok(sent) => Ok(StepOutput {
                 kind: machine.last.kind(),
                 sent,

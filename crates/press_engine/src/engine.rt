@@ -42,6 +42,7 @@ impl Engine {
     ghost use Rattle.press_table.specs.Passing.{SkipsBytes, SkipsControls};
     ghost use Rattle.press_engine.specs.Changing.{Changed};
     ghost use Rattle.press_engine.specs.Passing.{passed};
+    ghost use Rattle.press_engine.specs.Running.{RunsInner, ComesToNeedMemory};
     ghost use Rattle.press_engine.specs.Engine.{machine_of, bodies, HasFailed, ending_of, Steps, Runs, TakesNext, NeedsMemory, InnerNeedsMemory, view_of};
 
     /// An engine after power on.
@@ -131,6 +132,38 @@ impl Engine {
             return Err(EngineError::Failed);
         }
         let Ok(step) = self.bodies.step_inner(&mut self.machine, self.alloc) else {
+            self.failed = true;
+            return Err(EngineError::NoMemory);
+        };
+        Ok(step)
+    }
+
+    /// Takes the first commands that are left of the innermost body that runs at once, as long as each does no more than change the
+    /// machine and another is left in it: each is one step, in which nothing goes out and no body starts or ends. Then it takes a step as
+    /// [`Engine::take_inner`] does, and answers what goes out in that.
+    ///
+    /// Source: PCL 5 Printer Language Technical Reference Manual, Macros.
+    ///
+    /// # Errors
+    ///
+    /// As [`Engine::take_step`].
+    #[inline(always)]
+    pub fn run_inner(&mut self) -> Result<StepOutput, EngineError>
+        requires running { bodies self.old ≢ [] }
+        ensures runs { MatchResult result
+            (λ step. RunsInner (machine_of self.old) (bodies self.old) step
+            (machine_of self.new) (bodies self.new))
+            (λ _. HasFailed self.new) }
+        ensures failed { IsErrOf result EngineError.Failed ↔ (machine_of self.old ≡ None) }
+        ensures refused { IfErr result
+            (λ error. (error ≡ EngineError.Failed) ⊎ (error ≡ EngineError.NoMemory)) }
+        ensures memory { IsErrOf result EngineError.NoMemory →
+            ComesToNeedMemory (machine_of self.old) (bodies self.old) }
+    {
+        if self.failed {
+            return Err(EngineError::Failed);
+        }
+        let Ok(step) = self.bodies.run_inner(&mut self.machine, self.alloc) else {
             self.failed = true;
             return Err(EngineError::NoMemory);
         };

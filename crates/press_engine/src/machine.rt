@@ -55,7 +55,7 @@ impl Machine {
     ghost use Rattle.press_engine.specs.Machine.{power_on, with_state, taken, enter_body, leave_body};
     ghost use Rattle.press_engine.specs.Changing.{ChangesOrStays};
     ghost use Rattle.press_table.specs.Table.{effect_on};
-    ghost use Rattle.press_table.specs.declared.effect.Source.TheVariants.{Stream};
+    ghost use Rattle.press_table.specs.declared.effect.Source.{Source};
 
     /// The machine after power on.
     pub fn power_on(alloc: Global) -> Self
@@ -112,8 +112,8 @@ impl Machine {
     pub fn change(&mut self, alloc: Global, command: &Command<'_>) -> Result<bool, AllocError>
         ensures changes { IfOk result (λ changes.
             ChangesOrStays changes (token command.now) self.old self.new) }
-        ensures memory { IsErr result
-            → TakesMemory (effect_on Stream (token command.now) self.old.state) }
+        ensures memory { IsErr result → (source : Source)
+            → TakesMemory (effect_on source (token command.now) self.old.state) }
     {
         let kind = kind(command);
         if !self.state.change(alloc, command, kind)? {

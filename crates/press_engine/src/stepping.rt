@@ -47,16 +47,18 @@ impl Machine {
     ghost use Rattle.press_engine.specs.Stack.{HasNext, IsOverlayEnd, EndsOverlay};
     ghost use Rattle.press_table.specs.Outputs.{all_outputs};
     ghost use Rattle.press_table.specs.declared.effect.Source.TheVariants.{Stream};
-    ghost use Rattle.press_engine.specs.Stepping.{begun_over, first_effect, TakesFirst, finished, LeavesWork, run_of};
+    ghost use Rattle.press_engine.specs.Stepping.{begun_over, begun_by, first_effect, TakesFirst, finished, LeavesWork, MayTakeMemory, run_of};
     ghost use Rattle.press_engine.specs.Stepping.{stepped_of, unwind, step_outer, step_inner};
+    ghost use Rattle.press_engine.specs.Running.{TakesOn, ComesToTake, RunsThrough, ComesToTakeMemory};
     ghost use Rattle.press_table.specs.Table.{effect_on};
 
-    /// Takes the first command that is left of a body.
+    /// Takes the first command that is left of a body. It answers the effect of one that does more than change the machine.
+    #[inline(always)]
     fn take_first(
         &mut self,
         alloc: Global,
         activation: &mut Activation,
-    ) -> Result<Effect, AllocError>
+    ) -> Result<Option<Effect>, AllocError>
         requires { activation.old.body ≢ [] }
         ensures takes { IfOk result (λ effect. (command : Token) (rest : List Token)
             → activation.old.body ≡ command ∷ rest
@@ -68,8 +70,33 @@ impl Machine {
     {
         let source = source_in(activation.in_overlay, activation.macro_levels);
         match activation.body.next() {
-            Some(command) => self.take(alloc, source, &command),
+            Some(command) => {
+                if self.change(alloc, &command)? {
+                    return Ok(None);
+                }
+                Ok(Some(self.take(alloc, source, &command)?))
+            }
             None => unreachable!(),
+        }
+    }
+
+    /// Takes the first commands that are left of a body, as long as each does no more than change the machine and another is left, and
+    /// then one more. It answers the effect of that one, if it does more.
+    fn take_on(
+        &mut self,
+        alloc: Global,
+        activation: &mut Activation,
+    ) -> Result<Option<Effect>, AllocError>
+        requires { activation.old.body ≢ [] }
+        ensures takes { IfOk result (λ effect.
+            TakesOn activation.old self.old effect activation.new self.new) }
+        ensures memory { IsErr result → ComesToTake activation.old self.old }
+    {
+        loop {
+            let effect = self.take_first(alloc, activation)?;
+            if effect.is_some() || activation.body.is_used_up() {
+                return Ok(effect);
+            }
         }
     }
 
@@ -268,6 +295,31 @@ impl Machine {
         Ok(out)
     }
 
+    /// The rest of a step of a body, by the effect of its command, if that did more than change the machine.
+    fn finish_step(
+        &mut self,
+        alloc: Global,
+        in_overlay: bool,
+        macro_levels: u8,
+        effect: Option<Effect>,
+        activations: &mut Vec<Activation>,
+    ) -> Result<Vec<Sent>, AllocError>
+        ensures steps { IfOk result (λ out.
+            stepped_of self.new out.items (reverse activations.new.items)
+            ≡ finished (begun_by in_overlay macro_levels effect self.old)
+            (reverse activations.old.items)) }
+        ensures memory { IsErr result → MayTakeMemory effect self.old.state
+            ⊎ LeavesWork (begun_by in_overlay macro_levels effect self.old)
+            (reverse activations.old.items) }
+    {
+        match effect {
+            Some(effect) if !effect.is_done() => {
+                self.go_on(alloc, in_overlay, macro_levels, effect, activations)
+            }
+            _ => self.end_step(alloc, activations),
+        }
+    }
+
     /// Takes a command of the stream, where no body runs.
     pub fn step_outer(
         &mut self,
@@ -309,9 +361,27 @@ impl Machine {
         let in_overlay = activation.in_overlay;
         let macro_levels = activation.macro_levels;
         let effect = self.take_first(alloc, activation)?;
-        if effect.is_done() {
-            return self.end_step(alloc, activations);
-        }
-        self.go_on(alloc, in_overlay, macro_levels, effect, activations)
+        self.finish_step(alloc, in_overlay, macro_levels, effect, activations)
+    }
+
+    /// Takes the first commands of the innermost body, as long as each does no more than change the machine and another is left in it,
+    /// and then takes a step.
+    pub fn run_inner(
+        &mut self,
+        alloc: Global,
+        activations: &mut Vec<Activation>,
+    ) -> Result<Vec<Sent>, AllocError>
+        requires running { HasNext (reverse activations.old.items) }
+        ensures runs { IfOk result (λ out. RunsThrough (reverse activations.old.items) self.old
+            (stepped_of self.new out.items (reverse activations.new.items))) }
+        ensures memory { IsErr result
+            → ComesToTakeMemory (reverse activations.old.items) self.old }
+    {
+        let innermost = activations.len() - 1;
+        let activation = &mut activations[innermost];
+        let in_overlay = activation.in_overlay;
+        let macro_levels = activation.macro_levels;
+        let effect = self.take_on(alloc, activation)?;
+        self.finish_step(alloc, in_overlay, macro_levels, effect, activations)
     }
 }
