@@ -18,10 +18,11 @@ use Rattle.press_stream.proofs.Going.{CarriesOn-after}
 use Rattle.press_stream.proofs.Passing.{passes_on}
 
 -- commands, and then others
-pub PassesOn-then : (old between new : JobState) → PassesOn old between → PassesOn between new → PassesOn old new
-PassesOn-then old between new first second = record {
+pub PassesOn-then : (old between new : JobState) → old.bodies ≡ [] → PassesOn old between → PassesOn between new → PassesOn old new
+PassesOn-then old between new none first second = record {
   goes = CarriesOn-after old between new [] [] [] first.goes second.goes;
-  idle = second.idle;
+  idle = λ _. second.idle (first.idle none);
+  inside = λ some. absurd (some none);
   fewer = omega (arith, first.fewer, second.fewer);
   ended = second.ended ∙ first.ended;
 }

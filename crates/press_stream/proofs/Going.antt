@@ -206,7 +206,7 @@ exit_owed job going ended done =
     (λ _. refl, subst Q (sym going) ([], subst P (sym (append-nil job.held.bytes)) (done.closed ended), refl))
 
 -- What a step takes of the stream: the bytes so far, what is owed behind it, and how many commands are left.
-taken-so_far : (old new : JobState) (given : List Token) → TakesGiven old given new → new.held.ended ≡ false
+pub taken-so_far : (old new : JobState) (given : List Token) → TakesGiven old given new → new.held.ended ≡ false
     → (old.held.ended ≡ false) × Steps old.held.mode (old.held.bytes ++ []) given new.held.mode new.held.bytes
 taken-so_far old new given (inl (_, none, held, _)) going =
     let P : ScannerState → Type 0 = λ (now : ScannerState). (now.ended ≡ false) → (old.held.ended ≡ false) × Steps old.held.mode (old.held.bytes ++ []) [] now.mode now.bytes in

@@ -1,17 +1,26 @@
 -- Steps in a body that runs.
-use Rattle.std.proofs.Common.{◌≡◌, ◌≢◌, ◌∙◌, ◌↔◌, List, [], Bool, false, IsTrue, refl, sym, subst}
+use Rattle.std.proofs.Common.{◌≡◌, ◌≢◌, ◌⊎◌, ◌∙◌, ◌↔◌, ◌++◌, List, [], Option, Some, None, Ok, Err, Bool, true, false, if◌then◌else◌, IsTrue, inl, inr, refl, sym, ap, subst, arith}
 use Rattle.std.proofs.lemmas.Bool.{false≢true}
 use Rattle.press_scan.specs.ScannerState.{ScannerState}
 use Rattle.press_engine.specs.declared.step_output.StepOutput.{StepOutput}
 use Rattle.press_engine.specs.declared.engine.Engine.{Engine}
+use Rattle.press_engine.specs.declared.fault.EngineError.{EngineError}
+use Rattle.press_engine.specs.declared.fault.EngineError.TheVariants as engine_errors
 use Rattle.press_engine.specs.declared.activation.Activation.{Activation}
+use Rattle.press_engine.specs.declared.machine.Machine.{Machine}
 use Rattle.press_engine.specs.Engine.{machine_of, bodies, Steps}
+use Rattle.press_engine.specs.Running.{GoesOn, RunsInner, ComesToNeedMemory}
 use Rattle.press_engine.specs.Stack.{continuation, HasNext}
+use Rattle.press_engine.proofs.RunningLaws.{goes_on, was_next, still_next}
 use Rattle.press_stream.specs.declared.phase.Phase.{Phase}
 use Rattle.press_stream.specs.declared.phase.Phase.TheVariants as phases
+use Rattle.press_stream.specs.declared.step.JobStep.TheVariants as steps
+use Rattle.press_stream.specs.Answers.{job_error, PassesOn, TakesOn, WantsMemory}
 use Rattle.press_stream.specs.State.{JobState, job_state}
-use Rattle.press_stream.specs.Steps.{DoesStep}
+use Rattle.press_stream.specs.Steps.{TakesGiven, DoesStep}
 use Rattle.press_stream.proofs.Carries.{DoesStep-inside}
+use Rattle.press_stream.proofs.Going.{next_runs, taken-so_far, taken-to_end, taken-fewer, taken-ended}
+use Rattle.press_stream.proofs.Items.{left-none}
 
 -- what tells whether no body runs
 pub not_idle : (idle : Bool) (activations : List Activation) → (IsTrue idle ↔ (activations ≡ [])) → idle ≡ false → activations ≢ []
@@ -43,3 +52,94 @@ module _ (held : ScannerState) (engine new : Engine) where
       → Steps (machine_of engine) (continuation (bodies engine)) step (machine_of new) (bodies new)
       → DoesStep one step (job_state held new phase) in
       subst P is (ran phase step)
+
+-- ---- commands of a body that a job takes at once
+
+-- the innermost body goes on by commands that do no more than change the machine
+passes_inside : (old new : JobState) (before after : Machine) → old.machine ≡ Some before → new.machine ≡ Some after
+    → GoesOn old.bodies before new.bodies after → new.held ≡ old.held → new.exited ≡ old.exited → PassesOn old new
+passes_inside old new before after was is goes held exited =
+    let passes = goes_on old.bodies new.bodies before after goes in
+    let next = was_next old.bodies new.bodies before after goes in
+    let takes : TakesGiven old [] new = inl (next, refl, held, exited) in
+    record {
+      goes = (
+        [],
+        passes.items,
+        record {
+          so_far = taken-so_far old new [] takes;
+          to_end = taken-to_end old new [] takes;
+          from = before;
+          starts = was;
+          ends = is ∙ ap (λ (machine : Machine). Some machine) (sym passes.ends);
+          are =
+              left-none old.bodies before
+              ∙ passes.owes
+              ∙ ap (λ (machine : Machine). passes.items ++ continuation new.bodies machine) (sym passes.ends);
+        },
+        sym passes.nothing,
+      );
+      idle = λ none. absurd (next_runs old.bodies next none);
+      inside = λ _. (refl, next_runs new.bodies (still_next old.bodies new.bodies before after goes));
+      fewer = omega (arith, taken-fewer old new [] takes);
+      ended = taken-ended old new [] takes;
+    }
+
+-- and then a step was taken
+run_on : (old new : JobState) (step : StepOutput) → RunsInner old.machine old.bodies step new.machine new.bodies → new.held ≡ old.held → new.exited ≡ old.exited
+    → TakesOn old (Ok (steps.Ran step)) new
+run_on old new step runs held exited =
+    let on = runs.runs in
+    let between : JobState = record old { machine = Some on.between; bodies = on.left } in
+    let next = still_next old.bodies on.left runs.before on.between on.goes in (
+      between,
+      passes_inside old between runs.before on.between runs.was refl on.goes refl refl,
+      DoesStep-inside between new step (next, refl, held, exited)
+          (record { before = on.between; after = runs.after; was = refl; is = runs.is; steps = on.steps }),
+    )
+
+pub job_runs_on : (held : ScannerState) (engine new : Engine) (phase : Phase) (job : JobState) (step : StepOutput) → job_state held engine phase ≡ job → job.bodies ≢ []
+    → RunsInner (machine_of engine) (bodies engine) step (machine_of new) (bodies new) → TakesOn job (Ok (steps.Ran step)) (job_state held new phase)
+job_runs_on held engine new phase job step is inside runs =
+    let P : JobState → Type 0 = λ one. one.bodies ≢ [] → TakesOn one (Ok (steps.Ran step)) (job_state held new phase) in
+    subst P is (by phase) inside where
+      by : (phase : Phase) → (job_state held engine phase).bodies ≢ [] → TakesOn (job_state held engine phase) (Ok (steps.Ran step)) (job_state held new phase)
+      by phases.Running some = run_on (job_state held engine phases.Running) (job_state held new phases.Running) step runs refl refl
+      by phases.Exited some = run_on (job_state held engine phases.Exited) (job_state held new phases.Exited) step runs refl refl
+      by phases.Failed some = absurd (some refl)
+
+-- or memory ran out there
+abbrev WantsOn : JobState → Type 0
+WantsOn job = (between : JobState) × PassesOn job between × WantsMemory between
+
+comes_to : (job : JobState) (machine : Option Machine) → job.machine ≡ machine → ComesToNeedMemory machine job.bodies → WantsOn job
+comes_to job None is needs = absurd needs
+comes_to job (Some machine) is (left, between, goes, takes) =
+    (record job { machine = Some between; bodies = left }, passes_inside job (record job { machine = Some between; bodies = left }) machine between is refl goes refl refl, inl takes)
+
+pub job_wants_on : (held : ScannerState) (engine : Engine) (phase : Phase) (job : JobState) → job_state held engine phase ≡ job → job.bodies ≢ []
+    → ComesToNeedMemory (machine_of engine) (bodies engine) → WantsOn job
+job_wants_on held engine phase job is inside needs =
+    let P : JobState → Type 0 = λ one. one.bodies ≢ [] → WantsOn one in
+    subst P is (by phase) inside where
+      by : (phase : Phase) → (job_state held engine phase).bodies ≢ [] → WantsOn (job_state held engine phase)
+      by phases.Running some = comes_to (job_state held engine phases.Running) (machine_of engine) refl needs
+      by phases.Exited some = comes_to (job_state held engine phases.Exited) (machine_of engine) refl needs
+      by phases.Failed some = absurd (some refl)
+
+failed-idle : (failed : Bool) (machine : Machine) (running : List Activation) → (if failed then None else Some machine) ≡ None → (if failed then [] else running) ≡ []
+failed-idle true machine running is = refl
+failed-idle false machine running is = absurd cc
+
+-- an engine in which a body runs has not failed
+pub job_stops_on : (held : ScannerState) (engine : Engine) (phase : Phase) (job new : JobState) (error : EngineError) → job_state held engine phase ≡ job → job.bodies ≢ []
+    → new.machine ≡ None → (error ≡ engine_errors.Failed → machine_of engine ≡ None) → (error ≡ engine_errors.Failed) ⊎ (error ≡ engine_errors.NoMemory)
+    → (error ≡ engine_errors.NoMemory → ComesToNeedMemory (machine_of engine) (bodies engine)) → TakesOn job (Err (job_error error)) new
+job_stops_on held engine phase job new engine_errors.NoMemory is inside gone failed refused needs =
+    let (between, passes, wants) = job_wants_on held engine phase job is inside (needs refl) in
+    (between, passes, (wants, gone))
+job_stops_on held engine phase job new engine_errors.Failed is inside gone failed refused needs =
+    let some = engine_inside held engine phase (subst (λ (one : JobState). one.bodies ≢ []) (sym is) inside) in
+    absurd (some (failed-idle engine.failed engine.machine.value engine.bodies (failed refl)))
+job_stops_on held engine phase job new engine_errors.SinkFault is inside gone failed refused needs = elim refused [ inl e ↦ absurd cc | inr e ↦ absurd cc ]
+job_stops_on held engine phase job new engine_errors.ReplyFault is inside gone failed refused needs = elim refused [ inl e ↦ absurd cc | inr e ↦ absurd cc ]

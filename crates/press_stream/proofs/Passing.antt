@@ -117,11 +117,18 @@ passes_on old new going still idle none carries =
         },
         sym (tells.outputs ∙ carries.nothing),
       );
-      idle = none;
+      idle = λ _. none;
+      inside = λ some. absurd (some idle);
       fewer = rw (going, still) (omega (arith, stays.fewer));
       ended = stays.ended;
     }
 
 -- in a job that runs no more nothing is taken
 pub PassesOn-none : (job : JobState) → IsSome job.machine → job.bodies ≡ [] → PassesOn job job
-PassesOn-none job running idle = record { goes = CarriesOn-none job running; idle = idle; fewer = omega arith; ended = refl }
+PassesOn-none job running idle = record {
+  goes = CarriesOn-none job running;
+  idle = λ _. idle;
+  inside = λ some. absurd (some idle);
+  fewer = omega arith;
+  ended = refl;
+}

@@ -1,5 +1,5 @@
 -- Bodies that run, until none does.
-use Rattle.std.proofs.Common.{◌≡◌, ◌≢◌, ◌∙◌, ◌<◌, ◌≤◌, List, [], ◌∷◌, ◌++◌, length, Option, Some, None, Ok, sym, ap, arith, inl, inr}
+use Rattle.std.proofs.Common.{◌≡◌, ◌≢◌, ◌∙◌, ◌<◌, ◌≤◌, List, [], ◌∷◌, ◌++◌, length, Option, Some, None, Ok, sym, ap, arith, inl, inr, length-append}
 use Rattle.press_sink.specs.Sending.{Output}
 use Rattle.press_cmd.specs.Token.{Token}
 use Rattle.press_cmd.specs.declared.variant.Kind.{Kind}
@@ -7,6 +7,7 @@ use Rattle.press_engine.specs.declared.activation.Activation.{Activation}
 use Rattle.press_engine.specs.declared.machine.Machine.{Machine}
 use Rattle.press_engine.specs.Machine.{StepResult}
 use Rattle.press_engine.specs.Stack.{continuation}
+use Rattle.press_engine.specs.Trace.{last_machine}
 use Rattle.press_stream.specs.declared.step.Step.{Step}
 use Rattle.press_stream.specs.declared.step.Step.TheVariants as answers
 use Rattle.press_stream.specs.Answers.{TakesOf, Takes, ComesToWant}
@@ -49,6 +50,16 @@ one_fewer old new item kind inside did =
     let all : continuation old.bodies did.from ≡ item ∷ continuation new.bodies item.machine =
     sym (left-none old.bodies did.from) ∙ ap (λ (commands : List Token). left commands old.bodies did.from) (sym none) ∙ did.are in
     rw (here, there, all) (omega arith)
+
+-- Items that nothing of the stream was taken for leave no more.
+pub no_more : (old new : JobState) (went : List Output) → (goes : CarriesOn old [] new went) → goes.0 ≡ [] → length (still_owed new) ≤ length (still_owed old)
+no_more old new went (given, items, goes, is) none =
+    let last = last_machine goes.from items in
+    let here = owed_at old.bodies old.machine goes.from goes.starts in
+    let there = owed_at new.bodies new.machine last goes.ends in
+    let all : continuation old.bodies goes.from ≡ items ++ continuation new.bodies last =
+    sym (left-none old.bodies goes.from) ∙ ap (λ (commands : List Token). left commands old.bodies goes.from) (sym none) ∙ goes.are in
+    rw (here, there, all) (omega (arith, length-append items (continuation new.bodies last)))
 
 -- No body runs, so a step takes a command of the stream.
 pub one_taken : (job : JobState) (given : List Token) → job.bodies ≡ [] → TakesOf job given → 1 ≤ length given

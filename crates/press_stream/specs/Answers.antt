@@ -157,10 +157,12 @@ TakesStep old (Err errors.AfterEnd) new = ⊥
 abbrev pub ComesToWant : JobState → Type 0
 ComesToWant job = (given : List Token) × (items : List StepResult) × (last : JobState) × CarriesOut job [] given items last × WantsMemory last
 
--- A job in which no body runs took commands of its stream, and nothing goes out in any of them.
+-- A job took commands, and nothing goes out in any of them. Where no body runs, they are of its stream, and none runs then. Where one runs,
+-- they are of the innermost one, and one still runs.
 pub record PassesOn (old new : JobState) : Type 0 where
   pub goes : CarriesOn old [] new []
-  pub idle : new.bodies ≡ []
+  pub idle : old.bodies ≡ [] → new.bodies ≡ []
+  pub inside : old.bodies ≢ [] → (goes.0 ≡ []) × (new.bodies ≢ [])
   pub fewer : most_commands new ≤ most_commands old
   pub ended : new.held.ended ≡ old.held.ended
 

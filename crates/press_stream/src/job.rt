@@ -459,18 +459,37 @@ impl Job {
         ensures memory { IsErrOf result JobError.NoMemory → ComesToWant self.old }
     {
         while !self.is_idle() {
-            self.step(tag, sheets, replies)?;
+            self.step_on(tag, sheets, replies)?;
         }
         Ok(())
     }
 
-    /// Takes the next commands of the stream at once, as long as each does no more than change the machine, and then a step.
+    /// Takes the next commands of the innermost body that runs at once, as long as each does no more than change the machine and another is
+    /// left in it, and then a step.
+    #[inline(always)]
+    fn run_inside(&mut self) -> Result<JobStep, JobError>
+        requires { self.old.bodies ≢ [] }
+        ensures takes { TakesOn self.old result self.new }
+    {
+        match self.engine.run_inner() {
+            Ok(step) => Ok(JobStep::Ran(step)),
+            Err(fault) => {
+                self.phase = Phase::Failed;
+                Err(JobError::from(fault))
+            }
+        }
+    }
+
+    /// Takes the next commands at once, of the innermost body that runs or, where none runs, of the stream, as long as each does no more
+    /// than change the machine, and then a step.
     #[inline(always)]
     fn take_on(&mut self) -> Result<JobStep, JobError>
         requires running { IsSome self.old.machine }
-        requires none { self.old.bodies ≡ [] }
         ensures takes { TakesOn self.old result self.new }
     {
+        if !self.is_idle() {
+            return self.run_inside();
+        }
         match self.phase {
             Phase::Running => {
                 let answer = take_on(&mut self.scanner, &mut self.engine, &mut self.phase);
@@ -483,7 +502,7 @@ impl Job {
         }
     }
 
-    /// Takes the next commands of the stream as [`Job::take_on`] does, and hands what goes out in the last step to the sinks.
+    /// Takes the next commands as [`Job::take_on`] does, and hands what goes out in the last step to the sinks.
     fn step_on<S: SheetSink, P: ReplySink>(
         &mut self,
         tag: u64,
@@ -491,7 +510,6 @@ impl Job {
         replies: &mut P,
     ) -> Result<Step, JobError>
         requires running { IsSome self.old.machine }
-        requires none { self.old.bodies ≡ [] }
         requires has_fault_room { HasFaultRoom (logs (S.told sheets.old) (P.told replies.old)) }
         ensures { HandsOut (ending_by (fault_of result)) (StepsOn self.old result self.new)
             (under tag (logs (S.told sheets.old) (P.told replies.old))

@@ -22,7 +22,7 @@ pub pass-requires-clause-running : goal.pass-requires-clause-running
 pass-requires-clause-running c = c.loop-step.invariant.running
 
 pub pass-requires-clause-none : goal.pass-requires-clause-none
-pass-requires-clause-none c = c.loop-step.invariant.goes.idle
+pass-requires-clause-none c = c.loop-step.invariant.goes.idle c.requires.none
 
 pub pass-requires-clause-room : goal.pass-requires-clause-room
 pass-requires-clause-room c = c.loop-step.invariant.room
@@ -38,9 +38,9 @@ returns-in_err-carry_plain-clause-takes c =
     let between = job_state at.scanner at.engine Running in
     rw (p.1, p.2, so_far.phase) (
       between,
-      PassesOn-then first old between so_far.goes c.pass.ensures.passes,
+      PassesOn-then first old between c.requires.none so_far.goes c.pass.ensures.passes,
       Stops-next at.scanner next.new.scanner (machine_of at.engine) (machine_of next.new.engine) (bodies at.engine) (bodies next.new.engine) _
-          c.pass.ensures.passes.idle (rw c.in_err-carry_plain.was at next.ensures.carries),
+          (c.pass.ensures.passes.idle (so_far.goes.idle c.requires.none)) (rw c.in_err-carry_plain.was at next.ensures.carries),
     )
 
 pub loop-step-smaller : goal.loop-step-smaller
@@ -59,8 +59,8 @@ loop-step-preserved c =
     let between = job_state at.scanner at.engine Running in
     let new = job_state next.new.scanner next.new.engine Running in
     record {
-      goes = PassesOn-then first between new (PassesOn-then first old between so_far.goes c.pass.ensures.passes)
-          (PassesOn-one between new command refl refl c.pass.ensures.passes.idle none passes changed);
+      goes = PassesOn-then first between new c.requires.none (PassesOn-then first old between c.requires.none so_far.goes c.pass.ensures.passes)
+          (PassesOn-one between new command refl refl (c.pass.ensures.passes.idle (so_far.goes.idle c.requires.none)) none passes changed);
       running = subst (λ (machine : Option Machine). IsSome machine) (sym changed.is) refl;
       room = passes.room ∙ c.pass.ensures.fits.1;
       phase = so_far.phase;
@@ -76,9 +76,9 @@ returns-in-Ran-clause-takes c =
     let between = job_state at.scanner at.engine Running in
     rw so_far.phase (
       between,
-      PassesOn-then first old between so_far.goes c.pass.ensures.passes,
+      PassesOn-then first old between c.requires.none so_far.goes c.pass.ensures.passes,
       DoesStep-next at.scanner next.new.scanner (machine_of at.engine) (machine_of next.new.engine) (bodies at.engine) (bodies next.new.engine) c.in-Ran.step
-          c.pass.ensures.passes.idle (rw (c.in_ok-carry_plain.was, c.in-Ran.is) at next.ensures.carries),
+          (c.pass.ensures.passes.idle (so_far.goes.idle c.requires.none)) (rw (c.in_ok-carry_plain.was, c.in-Ran.is) at next.ensures.carries),
     )
 
 pub returns-in-Ran-clause-fits : goal.returns-in-Ran-clause-fits
@@ -101,9 +101,9 @@ returns-in-Other-clause-takes c =
     let old = job_state c.loop-step.scanner c.loop-step.engine Running in
     let between = job_state at.scanner at.engine Running in
     let P : JobState → Type 0 = λ job. PassesOn first job in
-    let stays = c.pass.ensures.passes.idle ∙ sym none in (
+    let stays = (c.pass.ensures.passes.idle (so_far.goes.idle c.requires.none)) ∙ sym none in (
       job_state next.scanner next.engine Running,
       subst P (λ i. record { held = sym same i; machine = sym still i; bodies = stays i; exited = false })
-          (PassesOn-then first old between so_far.goes c.pass.ensures.passes),
+          (PassesOn-then first old between c.requires.none so_far.goes c.pass.ensures.passes),
       c.take.ensures.takes,
     )

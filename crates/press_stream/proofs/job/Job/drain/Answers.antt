@@ -100,7 +100,7 @@ loop-self-smaller g c =
     let idle = rw c.in_ok-run_out-2.was at c.run_out-in-Ran.ensures.idle in
     omega (
       arith,
-      one_taken on.is.0 did.given on.is.1.idle (taken-of on.is.0 c.step_on.new.self did.given did.takes),
+      one_taken on.is.0 did.given (on.is.1.idle c.loop-self.invariant.idle) (taken-of on.is.0 c.step_on.new.self did.given did.takes),
       taken-fewer on.is.0 c.step_on.new.self did.given did.takes,
       idle.1,
       on.is.1.fewer,
