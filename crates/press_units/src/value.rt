@@ -95,6 +95,9 @@ fn first_four(digits: &[u8]) -> u32
     ensures value { result ≡ number_of (four_digits digits.now) }
     ensures bound { result < 10000 }
 {
+    if digits.is_empty() {
+        return 0;
+    }
     let thousands = digit_at(digits, 0);
     let hundreds = digit_at(digits, 1);
     let tens = digit_at(digits, 2);
