@@ -1,7 +1,8 @@
 -- Commands of one byte each that a job takes at once.
-use Rattle.std.proofs.Common.{◌≡◌, ◌∙◌, ◌≤◌, ℕ, List, [], ◌∷◌, ◌++◌, length, Bool, false, Option, Some, None, IsSome, IfSome, IsTrue, refl, sym, ap, subst, arith, append-nil}
+use Rattle.std.proofs.Common.{◌≡◌, ◌∙◌, ◌≤◌, ◌<◌, ℕ, zero, suc, List, [], ◌∷◌, ◌++◌, length, Bool, false, Option, Some, None, IsSome, IfSome, IsTrue, refl, sym, ap, subst, arith, append-nil}
 use Rattle.std.specs.Prelude.{option_map}
 use Rattle.std.specs.List.{AllByRecursion}
+use Rattle.std.proofs.lemmas.List.{length-append}
 use Rattle.press_cmd.specs.Token.{Token, Escape, Grouped, Ungrouped, Control, Text, Broken, Uel, PjlLine, ForeignByte}
 use Rattle.press_cmd.specs.Split.{Steps}
 use Rattle.press_scan.specs.declared.passing.Passed.{Passed}
@@ -18,10 +19,11 @@ use Rattle.press_engine.specs.Fold.{run_all}
 use Rattle.press_engine.specs.Trace.{last_machine, trace}
 use Rattle.press_engine.proofs.FoldLaws.{trace_tells_the_run}
 use Rattle.press_engine.proofs.PassingLaws.{passing_is_counted}
+use Rattle.press_stream.proofs.Uneffective.{each-passed}
 use Rattle.press_stream.specs.Answers.{PassesOn}
 use Rattle.press_stream.specs.Meaning.{left, Owes}
 use Rattle.press_stream.specs.State.{JobState}
-use Rattle.press_stream.specs.Steps.{CarriesIdle}
+use Rattle.press_stream.specs.Steps.{CarriesIdle, PassesOrStays, PassesRun, passed_each}
 use Rattle.press_stream.proofs.Going.{CarriesOn-none, passes-to_end}
 
 -- ---- what a scanner passes over
@@ -87,6 +89,35 @@ CarriesIdle-some controls held next (Some machine) new over running bytes some p
       nothing = ap (λ (r : StepResult). r.outputs) run;
     }
 CarriesIdle-some controls held next None new over running bytes some passes is = absurd (cc)
+
+some_passed : (old : JobState) (count : ℕ) (new : JobState) → PassesRun old count new → 0 < count → PassesOrStays old count new
+some_passed old zero new run some = absurd (omega (arith, some))
+some_passed old (suc more) new run some = run
+
+-- a run of them
+pub passes_run : (controls : Bool) (old new : JobState) (over : Passed) → IsSome old.machine
+    → IfSome old.machine (λ machine. SkipsBytes machine.state) → (IsTrue controls → IfSome old.machine (λ machine. SkipsControls machine.state))
+    → PassesOver controls old.held over new.held → new.machine ≡ option_map (passed over.count over.kind) old.machine
+    → (old.bodies ≡ []) × (new.bodies ≡ []) → (old.exited ≡ false) × (new.exited ≡ false) → PassesOrStays old over.count new
+passes_run controls old new over running bytes some passes is idle going = by old.machine refl running bytes some is where
+  by : (machine : Option Machine) → old.machine ≡ machine → IsSome machine → IfSome machine (λ machine. SkipsBytes machine.state)
+      → (IsTrue controls → IfSome machine (λ machine. SkipsControls machine.state)) → new.machine ≡ option_map (passed over.count over.kind) machine
+      → PassesOrStays old over.count new
+  by None same running bytes some is = absurd (cc)
+  by (Some machine) same running bytes some is =
+      let given = passes.prefix ++ passes.last ∷ [] in
+      let ends : passed over.count over.kind machine ≡ passed_each given machine = rw (passes.count, passes.kind) (sym (each-passed passes.prefix passes.last machine)) in
+      some_passed old over.count new (record {
+        given = given;
+        count_is = passes.count;
+        each = passes.each;
+        from = machine;
+        starts = same;
+        none = no_effects controls machine.state bytes some given passes.bytes;
+        ends = is ∙ ap (λ (m : Machine). Some m) ends;
+        idle = idle;
+        going = going;
+      }) (omega (arith, passes.count, length-append passes.prefix (passes.last ∷ [])))
 
 -- ---- how a job goes on by them
 

@@ -1,5 +1,6 @@
 -- A table step of a job: what it takes of the stream, and the item that it does.
-use Rattle.std.specs.Prelude.{◌≡◌, ◌⊎◌, List, [], ◌∷◌, Option, Some, None, Result, Ok, Err, true, false}
+use Rattle.std.specs.Prelude.{◌≡◌, ◌⊎◌, ℕ, zero, suc, length, List, [], ◌∷◌, Option, Some, None, Result, Ok, Err, true, false}
+use Rattle.std.specs.List.{AllByRecursion}
 use Rattle.press_cmd.specs.Token.{Token, Uel}
 use Rattle.press_cmd.specs.declared.variant.Kind.{Kind}
 use Rattle.press_scan.specs.Gives.{Passes, IsDone}
@@ -14,6 +15,9 @@ use Rattle.press_engine.specs.Machine.{StepResult, macro_levels}
 use Rattle.press_table.specs.Outputs.{all_outputs}
 use Rattle.press_engine.specs.Stack.{continuation, HasNext}
 use Rattle.press_engine.specs.Fold.{run_all}
+use Rattle.press_engine.specs.Passing.{passed}
+use Rattle.press_cmd.specs.Kinds.{kind_of}
+use Rattle.press_table.specs.Passing.{HasNoEffect}
 use Rattle.press_engine.specs.Trace.{trace_at}
 use Rattle.press_stream.specs.declared.carrying.Plain.{Plain}
 use Rattle.press_stream.specs.declared.carrying.Plain.TheVariants as plain
@@ -78,6 +82,28 @@ CarriesPlain held old (Ok plain.Changed) next new still = (command : Token) × P
 CarriesPlain held old (Ok (plain.Ran step)) next new still = (command : Token) × Passes held command next × CarriesOne command old (Ok step) new still
 CarriesPlain held old (Ok plain.Other) next new still = (next ≡ held) × (new ≡ old) × (still ≡ [])
 CarriesPlain held old (Err error) next new still = (command : Token) × Passes held command next × CarriesOne command old (Err error) new still
+
+-- the machine behind commands that have no effect: each is a step more, and its kind that of the last
+abbrev pub passed_each : List Token → Machine → Machine
+passed_each [] machine = machine
+passed_each (command ∷ commands) machine = passed_each commands (passed 1 (kind_of command) machine)
+
+-- So many commands of the stream were taken one after another, no body ran, and each has no effect: it is a step more, and no more.
+pub record PassesRun (old : JobState) (count : ℕ) (new : JobState) : Type 0 where
+  pub given : List Token
+  pub count_is : count ≡ length given
+  pub each : PassesEach old.held given new.held
+  pub from : Machine
+  pub starts : old.machine ≡ Some from
+  pub none : AllByRecursion (HasNoEffect from.state) given
+  pub ends : new.machine ≡ Some (passed_each given from)
+  pub idle : (old.bodies ≡ []) × (new.bodies ≡ [])
+  pub going : (old.exited ≡ false) × (new.exited ≡ false)
+
+-- The same, or none was taken, and nothing changed.
+abbrev pub PassesOrStays : JobState → (count : ℕ) → JobState → Type 0
+PassesOrStays old zero new = new ≡ old
+PassesOrStays old (suc more) new = PassesRun old (suc more) new
 
 -- Commands that a scanner holds were handed to an engine one after another, and what they leave is left; nothing goes out.
 pub record CarriesIdle (held : ScannerState) (old : Option Machine) (next : ScannerState) (new : Option Machine) : Type 0 where

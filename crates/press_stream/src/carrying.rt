@@ -6,7 +6,7 @@ ghost use Rattle.press_scan.specs.ScannerState.{buffer_size};
 ghost use Rattle.press_engine.specs.Engine.{machine_of, bodies};
 ghost use Rattle.press_stream.specs.Answers.{TakesStep, PassesOn, TakesOn};
 ghost use Rattle.press_stream.specs.State.{job_state, Fits};
-ghost use Rattle.press_stream.specs.Steps.{CarriesOne, CarriesNext, CarriesPlain};
+ghost use Rattle.press_stream.specs.Steps.{CarriesOne, CarriesNext, CarriesPlain, PassesOrStays};
 ghost use Rattle.press_stream.specs.declared.phase.Phase.TheVariants.{Running};
 
 use crate::fault::JobError;
@@ -68,21 +68,27 @@ pub fn take(
     Ok(JobStep::Ran(step))
 }
 
-/// Hands the next commands that a scanner holds to an engine at once, as long as each has one byte and no effect.
+/// Hands the next commands that a scanner holds to an engine at once, as long as each has one byte and no effect, and answers how many.
 #[inline(always)]
-pub fn pass(scanner: &mut Scanner, engine: &mut Engine)
+pub fn pass(scanner: &mut Scanner, engine: &mut Engine) -> usize
     requires running { IsSome (machine_of engine.old) }
     requires none { bodies engine.old ≡ [] }
     requires room { scanner.old.room ≡ buffer_size }
     ensures passes { PassesOn (job_state scanner.old engine.old Running)
         (job_state scanner.new engine.new Running) }
+    ensures counts { PassesOrStays (job_state scanner.old engine.old Running) result
+        (job_state scanner.new engine.new Running) }
     ensures fits { Fits scanner.new engine.new Running }
 {
     if !engine.skips_bytes() {
-        return;
+        return 0;
     }
-    if let Some(passed) = scanner.pass(engine.skips_controls()) {
-        engine.pass(passed.count, passed.kind);
+    match scanner.pass(engine.skips_controls()) {
+        Some(passed) => {
+            engine.pass(passed.count, passed.kind);
+            passed.count
+        }
+        None => 0,
     }
 }
 

@@ -1,6 +1,6 @@
 //! A stream that is carried out as its pieces come.
 
-use crate::carrying::{take, take_on};
+use crate::carrying::{pass, take, take_on};
 use crate::fault::JobError;
 use crate::phase::Phase;
 use crate::step::{JobStep, Step};
@@ -52,6 +52,7 @@ impl Job {
     ghost use Rattle.press_engine.specs.Stack.{IsReady};
     ghost use Rattle.press_stream.specs.Left.{LeftWith};
     ghost use Rattle.press_stream.specs.State.{opened, with_piece, input_ended, most_commands, NeedsInput, IsOver, IsAfterEnd};
+    ghost use Rattle.press_stream.specs.Steps.{PassesOrStays};
     ghost use Rattle.press_stream.specs.Answers.{fault_of, ending_by, Pushes, IsGoing, IsEarly, IsStill, StandsStill, TakesStep, Takes, WantsMemory, CarriesOrStops, TakesOn, StepsOn, IsIdle, ComesToWant, Feeds, Finishes, RunsReader, Answered};
     ghost use Rattle.press_devices.specs.Reading.{most_reads, no_reads, HasFault, ReadFails};
 
@@ -142,6 +143,20 @@ impl Job {
                 self.phase = Phase::Failed;
                 Err(JobError::from(fault))
             }
+        }
+    }
+
+    /// Takes the next commands of the stream at once, as long as no body runs and each has one byte and no effect, and answers how many: each
+    /// is a table step, and nothing goes out. It may end before such a command, too.
+    #[inline(always)]
+    pub fn pass(&mut self) -> usize
+        ensures { PassesOrStays self.old result self.new }
+    {
+        match self.phase {
+            Phase::Running if self.engine.needs_command() => {
+                pass(&mut self.scanner, &mut self.engine)
+            }
+            _ => 0,
         }
     }
 

@@ -20,7 +20,7 @@ use Rattle.press_trace.specs.declared.place.Place.{Place}
 use Rattle.press_trace.specs.declared.told.Told.{Told}
 use Rattle.press_trace.specs.declared.told.Told.TheVariants.{Number, Flag, Places, Nothing}
 use Rattle.press_trace.specs.Fields.{key_of, told_by, group_word, fields_of, all_groups}
-use Rattle.press_trace.specs.Lines.{last_told, recorded_told, delivered_told, reply_told, view_object, where_members, line_members}
+use Rattle.press_trace.specs.Lines.{last_told, recorded_told, delivered_told, reply_told, view_object, where_members, line_members, run_members, steps_told}
 use Rattle.press_trace.specs.Pages.{rows_of, row_data, patch_data, size_data}
 use Rattle.press_trace.specs.Plain.{HasNoFloat}
 use Rattle.press_trace.specs.Seen.{is_told, told_fields, told_groups, view_told, object_if, put_some}
@@ -130,7 +130,7 @@ where_no_float : (place : Place) (now : View) → members_have_float (where_memb
 where_no_float place now =
     rw (integer_no_float now.x.0, integer_no_float now.y.0) refl
 
-pub line_no_float : (place : Place) (sheets : ℕ) (replies : List ℕ) (before : Option View) (now : View) (opened page : Option Data)
+line_no_float : (place : Place) (sheets : ℕ) (replies : List ℕ) (before : Option View) (now : View) (opened page : Option Data)
     → HasNoFloat opened → HasNoFloat page → members_have_float (line_members place sheets replies before now opened page) ≡ false
 line_no_float place sheets replies before now opened page plain_opened plain_page =
     some_no_float (codes "view") (view_object before now) _ (object_no_float (view_told before now) (groups_no_float before now all_groups no_members refl))
@@ -140,3 +140,9 @@ line_no_float place sheets replies before now opened page plain_opened plain_pag
     (some_no_float (codes "opened") opened _ plain_opened
     (some_no_float (codes "last") (last_told now.last) _ (last_no_float now.last)
     (some_no_float (codes "delivered") (delivered_told sheets) _ (either_no_float _ _ refl) (where_no_float place now)))))))
+
+pub run_no_float : (steps : ℕ) (place : Place) (sheets : ℕ) (replies : List ℕ) (before : Option View) (now : View) (opened page : Option Data)
+    → HasNoFloat opened → HasNoFloat page → members_have_float (run_members steps place sheets replies before now opened page) ≡ false
+run_no_float steps place sheets replies before now opened page plain_opened plain_page =
+    some_no_float (codes "steps") (steps_told steps) _ (either_no_float _ _ refl)
+    (line_no_float place sheets replies before now opened page plain_opened plain_page)

@@ -7,7 +7,9 @@ pub mod PageLemmas
 pub mod PlaceLemmas
 pub mod StepLemmas
 pub mod Standing
-pub mod Telling
 pub mod Fewer
+pub mod Chains
+pub mod RunLemmas
+pub mod Telling
 pub mod RebuiltLemmas
 pub mod worked

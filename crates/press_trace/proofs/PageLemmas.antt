@@ -1,5 +1,5 @@
 -- What is told of the open page.
-use Rattle.std.proofs.Common.{◌≡◌, ◌∙◌, ◌+◌, ◌-◌, ◌*◌, ◌≤◌, ◌<◌, ℕ, Bool, zero, suc, List, [], ◌∷◌, ◌++◌, map, take, drop, get_or, refl, Option, None, Some, inr, sym, ap, arith}
+use Rattle.std.proofs.Common.{◌≡◌, ◌∙◌, ◌+◌, ◌-◌, ◌*◌, ◌≤◌, ◌<◌, ℕ, Bool, zero, suc, List, [], ◌∷◌, ◌++◌, map, take, drop, get_or, Option, None, Some, inr, sym, ap, arith}
 use Rattle.std.proofs.lemmas.List.{map-append}
 use Rattle.std.proofs.lemmas.List.FromFn.{map-range_with_len_more, take-map-range_with_len}
 use Rattle.std.specs.List.{range_with_len}

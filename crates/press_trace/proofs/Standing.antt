@@ -28,7 +28,7 @@ use Rattle.press_trace.specs.declared.tracer.Tracer.{Tracer}
 use Rattle.press_trace.specs.Places.{Piece, Placed, Opens, ArePrefix, AreWhole, IsPlacedSoFar, IsPlacedTrace, commands_of, placed_at, placed_from, placed_exit, from_on, machine_after, runs_of}
 use Rattle.press_trace.specs.Standing.{StandsBehind, exit_if, taken_so_far}
 use Rattle.press_trace.specs.Traced.{AreFirst, last_of}
-use Rattle.press_trace.specs.Tracing.{IsAtStart, TellsOne, place_of, told_before, with_more}
+use Rattle.press_trace.specs.Tracing.{IsAtStart, TakesOne, place_of, told_before, with_more}
 use Rattle.press_trace.proofs.PlaceLemmas.{bytes_in, prefix-then, prefix-length, placed-then, runs-at, runs-append, runs-from, last-from, commands-then, whole-prefix, whole-steps, whole-more, whole-then}
 
 -- ---- at the start
@@ -160,7 +160,7 @@ told-then new machine placed one some is = by new.before some where
   by (Some seen) here = is ∙ sym (last_of-then None placed one)
 
 -- ---- the three kinds of steps
-module _ (bytes : List ℕ) (placed : List Placed) (old new : Tracer) (line : List ℕ) (behind : StandsBehind bytes placed old) (tells : TellsOne old line new) where
+module _ (bytes : List ℕ) (placed : List Placed) (old new : Tracer) (behind : StandsBehind bytes placed old) (tells : TakesOne old new) where
   abbrev one : Placed
   one = record { place = new.place; run = tells.item }
 

@@ -34,7 +34,7 @@ use Rattle.press_stream.proofs.Items.{left-one}
 use Rattle.press_trace.specs.declared.place.Place.{Place}
 use Rattle.press_trace.specs.declared.seen.Seen.{Seen}
 use Rattle.press_trace.specs.declared.sent.WentOut.{WentOut}
-use Rattle.press_trace.specs.Lines.{IsLine, IsViewOf, IsViewIf, line_members, line_text, page_if}
+use Rattle.press_trace.specs.Lines.{IsLineOf, IsViewOf, IsViewIf, run_members, line_text, page_if}
 use Rattle.press_trace.specs.Pages.{IsPageTold, KeepsRest}
 use Rattle.press_trace.specs.Seen.{IsAlike, IsAlikeIf}
 use Rattle.press_trace.specs.Sent.{AreOut}
@@ -65,11 +65,11 @@ page-before None (Some seen) page keeps = absurd keeps
 page-before (Some machine) None page keeps = absurd keeps
 page-before (Some machine) (Some seen) page keeps = keeps.shown
 
-pub is_line : (before : Option Machine) (place : Place) (machine : Machine) (outputs : List Output) (kept : Option Seen)
+pub is_line : (steps : ℕ) (before : Option Machine) (place : Place) (machine : Machine) (outputs : List Output) (kept : Option Seen)
     (page : Option Page) (seen : Option View) (now : View) (opened told : Option Data) (went : WentOut) (text : List ℕ)
     → IsKept before kept page → IsAlikeIf kept seen → IsViewOf machine now → IsPageTold page machine.state.page opened told → AreOut went outputs
-    → text ≡ line_text (line_members place went.sheets went.replies.items seen now opened told) → IsLine before (record { place = place; run = record { machine = machine; outputs = outputs } }) text
-is_line before place machine outputs kept page seen now opened told went text keeps alike is shows out here = record {
+    → text ≡ line_text (run_members steps place went.sheets went.replies.items seen now opened told) → IsLineOf steps before (record { place = place; run = record { machine = machine; outputs = outputs } }) text
+is_line steps before place machine outputs kept page seen now opened told went text keeps alike is shows out here = record {
   seen = seen;
   now = now;
   opened = opened;
@@ -77,7 +77,7 @@ is_line before place machine outputs kept page seen now opened told went text ke
   seen_is = view_if before kept page seen keeps alike;
   now_is = is;
   page_is = subst (λ (before : Option Page). IsPageTold before machine.state.page opened told) (page-before before kept page keeps) shows;
-  text_is = here ∙ (λ i. line_text (line_members place (out.sheets i) (out.replies i) seen now opened told));
+  text_is = here ∙ (λ i. line_text (run_members steps place (out.sheets i) (out.replies i) seen now opened told));
 }
 
 pub keeps_now : (seen : Seen) (view : View) (page : Option Page) (machine : Machine) → IsAlike seen view → IsViewOf machine view → page ≡ machine.state.page → Keeps seen page machine

@@ -11,6 +11,7 @@ pub mod Pages
 pub mod Plain
 pub mod Places
 pub mod Lines
+pub mod Runs
 pub mod Tracing
 pub mod Traced
 pub mod Standing

@@ -65,6 +65,15 @@ line_members place sheets replies before now opened page =
     (put_some (codes "last") (last_told now.last)
     (put_some (codes "delivered") (delivered_told sheets) (where_members place now no_members)))))))
 
+-- How many steps a line tells, where they are more than one.
+abbrev pub steps_told : ℕ → Option Data
+steps_told steps = if steps == 1 then None else Some (number (unsigned steps))
+
+abbrev pub run_members :
+    (steps : ℕ) → Place → (sheets : ℕ) → (replies : List ℕ) → (before : Option View) → (now : View) → (opened page : Option Data) → Members
+run_members steps place sheets replies before now opened page =
+    put_some (codes "steps") (steps_told steps) (line_members place sheets replies before now opened page)
+
 -- The line of members: their compact JSON, in which no character stands that a terminal takes as a control, and a line feed.
 abbrev pub line_text : Members → List ℕ
 line_text members = spelled (compact_text (object members)) ++ 10 ∷ []
@@ -83,8 +92,8 @@ abbrev pub page_if : Option Machine → Option Page
 page_if None = None
 page_if (Some machine) = machine.state.page
 
--- The line of an item, behind another one if there is one.
-pub record IsLine (before : Option Machine) (placed : Placed) (text : List ℕ) : Type 0 where
+-- The line of an item, behind another one if there is one, that tells so many steps.
+pub record IsLineOf (steps : ℕ) (before : Option Machine) (placed : Placed) (text : List ℕ) : Type 0 where
   pub seen : Option View
   pub now : View
   pub opened : Option Data
@@ -93,9 +102,13 @@ pub record IsLine (before : Option Machine) (placed : Placed) (text : List ℕ) 
   pub now_is : IsViewOf placed.run.machine now
   pub page_is : IsPageTold (page_if before) placed.run.machine.state.page opened page
   pub text_is : text ≡ line_text (
-      line_members placed.place (min (length (sheets_of placed.run.outputs)) greatest_of_64_bits)
+      run_members steps placed.place (min (length (sheets_of placed.run.outputs)) greatest_of_64_bits)
       (reply_bytes_of placed.run.outputs) seen now opened page
       )
+
+-- The line of an item by itself.
+abbrev pub IsLine : Option Machine → Placed → List ℕ → Type 0
+IsLine before placed text = IsLineOf 1 before placed text
 
 -- The lines of items, one after another.
 abbrev pub AreLines : Option Machine → List Placed → List ℕ → Type 0

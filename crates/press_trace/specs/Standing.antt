@@ -12,7 +12,8 @@ use Rattle.press_stream.specs.Answers.{IsIdle}
 use Rattle.press_stream.specs.State.{NeedsInput}
 use Rattle.press_trace.specs.declared.fault.TraceError.{TraceError}
 use Rattle.press_trace.specs.declared.tracer.Tracer.{Tracer}
-use Rattle.press_trace.specs.Lines.{AreLines}
+use Rattle.press_trace.specs.declared.line_of.LineOf.{LineOf}
+use Rattle.press_trace.specs.Runs.{AreTold}
 use Rattle.press_trace.specs.Places.{Piece, Placed, ArePrefix, AreWhole, commands_of, machine_after, placed_at, placed_exit, placed_from, runs_of}
 use Rattle.press_trace.specs.Traced.{StopsTracing, last_of}
 use Rattle.press_trace.specs.Tracing.{IsSound, told_before}
@@ -41,33 +42,33 @@ pub record StandsBehind (bytes : List ℕ) (placed : List Placed) (now : Tracer)
   pub told : told_before now ≡ last_of None placed
   pub long : now.length ≡ length bytes
 
--- The lines of the items behind which it stands were written, and nothing else.
-pub record HasTold (bytes : List ℕ) (old now : Option (List ℕ)) (tracer : Tracer) : Type 0 where
+-- The lines of the items behind which it stands, or of their runs, were written, and nothing else.
+pub record HasTold (by : LineOf) (bytes : List ℕ) (old now : Option (List ℕ)) (tracer : Tracer) : Type 0 where
   pub placed : List Placed
   pub text : List ℕ
   pub behind : StandsBehind bytes placed tracer
   pub sound : IsSound tracer
-  pub lines : AreLines None placed text
+  pub lines : AreTold by placed text
   pub written : Appends old now text
 
 -- The lines of all steps of the bytes that came were written; or it stopped. Whatever was written before is before it.
-pub record Further (before : Tracer) (was : Option (List ℕ)) (after : Tracer) (now : Option (List ℕ)) : Type 0 where
-  pub told : (bytes : List ℕ) (old : Option (List ℕ)) → HasTold bytes old was before → HasTold bytes old now after
+pub record Further (by : LineOf) (before : Tracer) (was : Option (List ℕ)) (after : Tracer) (now : Option (List ℕ)) : Type 0 where
+  pub told : (bytes : List ℕ) (old : Option (List ℕ)) → HasTold by bytes old was before → HasTold by bytes old now after
   pub idle : IsIdle after.job
   pub going : after.job.held.ended ≡ before.job.held.ended
   pub long : after.length ≡ before.length
 
-abbrev pub TellsFurther : Tracer → Option (List ℕ) → Result (Unit {0}) TraceError → Tracer → Option (List ℕ) → Type 0
-TellsFurther before was (Ok _) after now = Further before was after now
-TellsFurther before was (Err why) after now = (bytes : List ℕ) (old : Option (List ℕ)) → HasTold bytes old was before → StopsTracing bytes old now why
+abbrev pub TellsFurther : LineOf → Tracer → Option (List ℕ) → Result (Unit {0}) TraceError → Tracer → Option (List ℕ) → Type 0
+TellsFurther by before was (Ok _) after now = Further by before was after now
+TellsFurther by before was (Err why) after now = (bytes : List ℕ) (old : Option (List ℕ)) → HasTold by bytes old was before → StopsTracing by bytes old now why
 
 -- A reader gave these bytes, the lines of all their steps were written, and more bytes may come.
-pub record TellsRead (had left old now : Option (List ℕ)) (tracer : Tracer) : Type 0 where
+pub record TellsRead (by : LineOf) (had left old now : Option (List ℕ)) (tracer : Tracer) : Type 0 where
   pub bytes : List ℕ
   pub read : Consumes had left bytes
-  pub told : HasTold bytes old now tracer
+  pub told : HasTold by bytes old now tracer
   pub hungry : NeedsInput tracer.job
 
 -- the same of a reader that was read to its end
-abbrev pub TellsToEnd : (had left old now : Option (List ℕ)) → Tracer → Type 0
-TellsToEnd had left old now tracer = TellsRead had left old now tracer × IsAtEnd left
+abbrev pub TellsToEnd : LineOf → (had left old now : Option (List ℕ)) → Tracer → Type 0
+TellsToEnd by had left old now tracer = TellsRead by had left old now tracer × IsAtEnd left

@@ -1,23 +1,24 @@
 -- A stream that is told step by step.
-use Rattle.std.specs.Prelude.{◌≡◌, ◌-◌, ◌≤◌, ◌+◌, ℕ, List, [], ◌∷◌, length, Option, None, Some, IsSome, Bool, ◌&&◌, not, is_some, if◌then◌else◌}
+use Rattle.std.specs.Prelude.{◌≡◌, ◌⊎◌, ◌-◌, ◌≤◌, ◌+◌, ℕ, suc, List, [], ◌∷◌, length, Option, None, Some, IsSome, Bool, ◌&&◌, not, is_some, if◌then◌else◌}
 use Rattle.press_cmd.specs.Token.{Token}
 use Rattle.press_cmd.specs.declared.variant.Kind.{Kind}
 use Rattle.press_scan.specs.ScannerState.{ScannerState}
 use Rattle.press_bits.specs.Page.{Page}
-use Rattle.press_engine.specs.declared.step_output.StepOutput.{StepOutput}
+use Rattle.press_sink.specs.Sending.{Output}
 use Rattle.press_engine.specs.declared.machine.Machine.{Machine}
 use Rattle.press_engine.specs.Machine.{StepResult}
 use Rattle.press_engine.specs.Engine.{view_of}
 use Rattle.press_page.specs.declared.media.Orientation.{Orientation}
-use Rattle.press_table.specs.Outputs.{all_outputs}
 use Rattle.press_table.specs.PageKept.{kind_may_change_page, kind_transfers_rows, most_dot_lines}
 use Rattle.press_stream.specs.State.{opened, with_piece}
 use Rattle.press_stream.specs.Answers.{IsIdle}
-use Rattle.press_stream.specs.Steps.{Does}
+use Rattle.press_stream.specs.Steps.{Does, PassesRun}
 use Rattle.press_trace.specs.declared.place.Place.{Place}
 use Rattle.press_trace.specs.declared.seen.Seen.{Seen}
 use Rattle.press_trace.specs.declared.tracer.Tracer.{Tracer}
-use Rattle.press_trace.specs.Lines.{IsLine}
+use Rattle.press_trace.specs.declared.line_of.LineOf.{LineOf}
+use Rattle.press_trace.specs.declared.line_of.LineOf.TheVariants.{Step, Run}
+use Rattle.press_trace.specs.Lines.{IsLine, IsLineOf}
 use Rattle.press_trace.specs.Pages.{KeepsRest}
 use Rattle.press_trace.specs.Places.{Placed, from_on}
 use Rattle.press_trace.specs.declared.touched.Touched.{Touched}
@@ -79,9 +80,9 @@ pub record Shows (tracer : Tracer) (touched : Touched) (machine : Machine) : Typ
 abbrev pub ShowsSome : Tracer → Touched → Type 0
 ShowsSome tracer touched = (machine : Machine) × Shows tracer touched machine
 
--- the item of a step, in its place
-abbrev pub placed_run : Place → Machine → StepOutput → Placed
-placed_run place machine step = record { place = place; run = record { machine = machine; outputs = all_outputs step.sent.items } }
+-- an item, in its place
+abbrev pub placed_run : Place → Machine → List Output → Placed
+placed_run place machine outputs = record { place = place; run = record { machine = machine; outputs = outputs } }
 
 -- a place of a command of the stream, which began with so many bytes held; or that of the step before
 abbrev pub place_if : (outside : Bool) → (long held still : ℕ) → Place → Place
@@ -93,16 +94,41 @@ place_of long place [] held still = place
 place_of long place (command ∷ others) held still =
     from_on (long - length held.bytes) (length held.bytes - length still.bytes)
 
--- A step was taken, and its line was told.
-pub record TellsOne (old : Tracer) (line : List ℕ) (new : Tracer) : Type 0 where
+-- A step was taken.
+pub record TakesOne (old new : Tracer) : Type 0 where
   pub item : StepResult
   pub kind : Kind
   pub does : Does old.job item kind new.job
   pub place : new.place ≡ place_of old.length old.place does.given old.job.held new.job.held
   pub still : new.length ≡ old.length
   pub told : IsSome new.before
-  pub is_line : IsLine (told_before old) (record { place = new.place; run = item }) line
 
+-- A step was taken, and its line was told.
+pub record TellsOne (old : Tracer) (line : List ℕ) (new : Tracer) : Type 0 where
+  pub one : TakesOne old new
+  pub is_line : IsLine (told_before old) (record { place = new.place; run = one.item }) line
+
+-- A run of steps that do no more than count was taken, and the line of the last was told, with how many they are.
+pub record TellsRun (old : Tracer) (line : List ℕ) (new : Tracer) : Type 0 where
+  pub more : ℕ
+  pub passes : PassesRun old.job (suc more) new.job
+  pub place : new.place ≡ from_on (old.length - length old.job.held.bytes) (length old.job.held.bytes - length new.job.held.bytes)
+  pub still : new.length ≡ old.length
+  pub told : IsSome new.before
+  pub machine : Machine
+  pub ends : new.job.machine ≡ Some machine
+  pub is_line : IsLineOf (suc more) (told_before old) (placed_run new.place machine []) line
+
+-- A line was told of a step or of a run; or no step is left of the bytes that came.
 abbrev pub Tells : Tracer → Option (List ℕ) → Tracer → Type 0
 Tells old None new = IsIdle old.job × (new ≡ old)
 Tells old (Some line) new = TellsOne old line new
+
+abbrev pub TellsRunIf : Tracer → Option (List ℕ) → Tracer → Type 0
+TellsRunIf old None new = new ≡ old
+TellsRunIf old (Some line) new = TellsRun old line new
+
+abbrev pub TellsBy : LineOf → Tracer → Option (List ℕ) → Tracer → Type 0
+TellsBy Step old line new = Tells old line new
+TellsBy Run old None new = IsIdle old.job × (new ≡ old)
+TellsBy Run old (Some line) new = TellsOne old line new ⊎ TellsRun old line new

@@ -6,6 +6,7 @@ mod fault;
 mod fields;
 pub mod laws;
 mod line;
+mod line_of;
 mod page;
 mod place;
 mod rows;
@@ -19,4 +20,5 @@ mod tracer;
 mod tracing;
 
 pub use fault::TraceError;
-pub use tracing::trace_stream;
+pub use line_of::LineOf;
+pub use tracing::{trace_by, trace_stream};

@@ -7,7 +7,7 @@ ghost use Rattle.serde_json.specs.Written.{members_have_float};
 ghost use Rattle.press_trace.specs.Plain.{IsPlain};
 ghost use Rattle.press_engine.specs.declared.view.View.{View};
 ghost use Rattle.press_trace.specs.Seen.{IsAlikeIf};
-ghost use Rattle.press_trace.specs.Lines.{last_told, recorded_told, delivered_told, reply_told, view_object, where_members, line_members, line_text};
+ghost use Rattle.press_trace.specs.Lines.{last_told, recorded_told, delivered_told, reply_told, view_object, where_members, steps_told, run_members, line_text};
 
 use crate::page::PageTold;
 use crate::place::Place;
@@ -63,6 +63,16 @@ fn reply_value(alloc: Global, replies: &[u8]) -> Result<Option<Value>, AllocErro
     Ok(Some(text_value(alloc, replies)?))
 }
 
+/// How many steps a line tells, where they are more than one.
+fn steps_value(steps: usize) -> Option<Value>
+    ensures { option_map view result ≡ steps_told steps }
+{
+    if steps == 1 {
+        return None;
+    }
+    Some(Value::from(steps))
+}
+
 /// The fields that changed, if any did.
 fn view_value(
     alloc: Global,
@@ -101,9 +111,10 @@ fn ended_line(alloc: Global, members: Members) -> Result<Vec<u8>, AllocError>
     Ok(line)
 }
 
-/// The line of a step.
+/// The line of a step, which tells so many.
 fn step_line(
     alloc: Global,
+    steps: usize,
     place: Place,
     went: &WentOut,
     before: Option<&View<'_>>,
@@ -111,7 +122,7 @@ fn step_line(
     page: PageTold,
 ) -> Result<Vec<u8>, AllocError>
     requires { IsPlain page }
-    ensures { IfOk result (λ line. line.items ≡ line_text (line_members place
+    ensures { IfOk result (λ line. line.items ≡ line_text (run_members steps place
         went.now.sheets went.now.replies.items (option_map (λ view. view.now) before.entry) now.now
         (option_map view page.opened) (option_map view page.page))) }
 {
@@ -133,12 +144,14 @@ fn step_line(
         reply_value(alloc, &went.replies)?,
     )?;
     put_some(&mut members, alloc, "view", view_value(alloc, before, now)?)?;
+    put_some(&mut members, alloc, "steps", steps_value(steps))?;
     ended_line(alloc, members)
 }
 
-/// The line of a step, by what was kept of the step before.
+/// The line of a step, which tells so many, by what was kept of the step before.
 pub(crate) fn seen_line(
     alloc: Global,
+    steps: usize,
     place: Place,
     went: &WentOut,
     before: &Option<Seen>,
@@ -147,11 +160,11 @@ pub(crate) fn seen_line(
 ) -> Result<Vec<u8>, AllocError>
     requires { IsPlain page }
     ensures { IfOk result (λ line. (seen : Option View) × IsAlikeIf before.now seen
-        × (line.items ≡ line_text (line_members place went.now.sheets went.now.replies.items
+        × (line.items ≡ line_text (run_members steps place went.now.sheets went.now.replies.items
         seen now.now (option_map view page.opened) (option_map view page.page)))) }
 {
     match before {
-        Some(before) => step_line(alloc, place, went, Some(&before.view()), now, page),
-        None => step_line(alloc, place, went, None, now, page),
+        Some(before) => { step_line(alloc, steps, place, went, Some(&before.view()), now, page) },
+        None => step_line(alloc, steps, place, went, None, now, page),
     }
 }

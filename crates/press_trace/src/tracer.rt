@@ -3,13 +3,14 @@
 ghost use Rattle.std.specs.Prelude.{◌≡◌, ◌≤◌, ◌+◌, false, length, IfOk, OnOk};
 
 use crate::line::seen_line;
+use crate::line_of::LineOf;
 use crate::page::{PageTold, told_page};
 use crate::place::Place;
 use crate::seen::Seen;
 use crate::sent::WentOut;
 use crate::touched::{Touched, row_line, touched_by};
 use press_canvas::Canvas;
-use press_engine::StepOutput;
+use press_engine::Sent;
 use press_stream::{Job, JobStep};
 use std::alloc::{AllocError, Global};
 
@@ -32,11 +33,12 @@ impl Tracer {
     ghost use Rattle.std.specs.Prelude.{Some, Option, option_map};
     ghost use Rattle.serde_json.specs.View.{view};
     ghost use Rattle.press_engine.specs.declared.machine.Machine.{Machine};
-    ghost use Rattle.press_trace.specs.Lines.{IsLine};
+    ghost use Rattle.press_trace.specs.Lines.{IsLineOf};
+    ghost use Rattle.press_table.specs.Outputs.{all_outputs};
     ghost use Rattle.press_trace.specs.Pages.{IsPageTold};
     ghost use Rattle.press_trace.specs.Plain.{IsPlain};
     ghost use Rattle.press_stream.specs.State.{input_ended};
-    ghost use Rattle.press_trace.specs.Tracing.{IsAtStart, IsSound, IsKept, Tells, Shows, ShowsSome, most_bytes, placed_run, place_if, with_more};
+    ghost use Rattle.press_trace.specs.Tracing.{IsAtStart, IsSound, IsKept, Tells, TellsBy, TellsRunIf, Shows, ShowsSome, most_bytes, placed_run, place_if, with_more};
 
     /// A stream of which no byte came.
     pub(crate) fn open(alloc: Global) -> Result<Self, AllocError>
@@ -74,6 +76,38 @@ impl Tracer {
         self.job.end_input();
     }
 
+    /// Takes the next table step, or the next run of steps that do no more than count. The answer is its line, with its line feed; none where
+    /// no step is left of the bytes that came.
+    pub(crate) fn next(&mut self, by: LineOf) -> Result<Option<Vec<u8>>, AllocError>
+        requires { IsSound self.old }
+        ensures tells { IfOk result (λ line.
+            TellsBy by self.old (option_map (λ text. text.items) line) self.new) }
+        ensures sound { OnOk result (IsSound self.new) }
+    {
+        if let LineOf::Run = by
+            && let Some(line) = self.next_run()?
+        {
+            return Ok(Some(line));
+        }
+        self.next_line()
+    }
+
+    /// Takes the next steps that do no more than count. The answer is the line of their run; none where the next step does more.
+    fn next_run(&mut self) -> Result<Option<Vec<u8>>, AllocError>
+        requires { IsSound self.old }
+        ensures tells { IfOk result (λ line.
+            TellsRunIf self.old (option_map (λ text. text.items) line) self.new) }
+        ensures sound { OnOk result (IsSound self.new) }
+    {
+        let held = self.job.held();
+        let steps = self.job.pass();
+        if steps == 0 {
+            return Ok(None);
+        }
+        self.place = self.place_behind(true, held);
+        Ok(Some(self.tell(&[], Touched::Nothing, steps)?))
+    }
+
     /// Takes the next table step. The answer is its line, with its line feed; none where no step is left of the bytes that came.
     pub(crate) fn next_line(&mut self) -> Result<Option<Vec<u8>>, AllocError>
         requires { IsSound self.old }
@@ -90,8 +124,12 @@ impl Tracer {
             Ok(JobStep::Ran(step)) => {
                 self.place = self.place_behind(outside, held);
                 let behind = row_line(&self.job.view());
-                let touched = touched_by(outside, step.kind, orientation, before, behind);
-                Ok(Some(self.tell(&step, touched)?))
+                let line = self.tell(
+                    &step.sent,
+                    touched_by(outside, step.kind, orientation, before, behind),
+                    1,
+                )?;
+                Ok(Some(line))
             }
             Ok(_) => Ok(None),
             Err(_) => Err(AllocError),
@@ -134,21 +172,30 @@ impl Tracer {
         Ok(told)
     }
 
-    /// The line of the step that was taken last.
-    fn tell(&mut self, step: &StepOutput, touched: Touched) -> Result<Vec<u8>, AllocError>
+    /// The line of the step that was taken last, in which this went out, as that of so many.
+    fn tell(&mut self, sent: &[Sent], touched: Touched, steps: usize) -> Result<Vec<u8>, AllocError>
         requires { ShowsSome self.old touched }
         ensures line { IfOk result (λ line. (machine : Machine) → Shows self.old touched machine
             → (before : Option Machine) → IsKept before self.old.before self.old.page
-            → IsLine before (placed_run self.old.place machine step.now) line.items) }
+            → IsLineOf steps before
+            (placed_run self.old.place machine (all_outputs sent.now)) line.items) }
         ensures kept { OnOk result ((machine : Machine) → Shows self.old touched machine
             → IsKept (Some machine) self.new.before self.new.page) }
         ensures others { OnOk result (self.new
             ≡ record self.old { before = self.new.before; page = self.new.page }) }
     {
         let page = self.page_told(touched)?;
-        let went = WentOut::of(&mut self.job, self.alloc, &step.sent)?;
+        let went = WentOut::of(&mut self.job, self.alloc, sent)?;
         let view = self.job.view();
-        let line = seen_line(self.alloc, self.place, &went, &self.before, &view, page)?;
+        let line = seen_line(
+            self.alloc,
+            steps,
+            self.place,
+            &went,
+            &self.before,
+            &view,
+            page,
+        )?;
         self.before = Some(Seen::of(self.alloc, &view)?);
         Ok(line)
     }

@@ -10,7 +10,7 @@ loop-length-init g c =
     let none : c.none-count.result.reads ≡ 0 = ap (λ (count : ReadCount). count.reads) c.none-count.ensures in
     record {
       so_far =
-          none_read (g.R.ReadDevice.remaining c.args.reader.now) (g.W.WriteDevice.contents c.args.out.now) c.args.tracer.now
+          none_read c.args.by (g.R.ReadDevice.remaining c.args.reader.now) (g.W.WriteDevice.contents c.args.out.now) c.args.tracer.now
           c.requires.start c.requires.sound;
       counted = omega (arith, none);
       most = omega (arith, none);
@@ -20,18 +20,18 @@ loop-length-init g c =
 pub returns-in_err-length-clause-stops : goal.returns-in_err-length-clause-stops
 returns-in_err-length-clause-stops g c =
     rw (exit-is c.from_residual.ensures.1)
-    (read_failed _ _ _ _ c.loop-length.tracer c.loop-length.invariant.so_far _ c.in_err-length.ensures.piece)
+    (read_failed c.args.by _ _ _ _ c.loop-length.tracer c.loop-length.invariant.so_far _ c.in_err-length.ensures.piece)
 
 pub returns-in_err-push-clause-stops : goal.returns-in_err-push-clause-stops
 returns-in_err-push-clause-stops g c =
     rw (exit-is c.from_residual-in_err-push.ensures.1)
-    (piece_not_held _ _ _ _ c.loop-length.tracer c.loop-length.invariant.so_far _ (take c.in_ok-length.length c.read_next.new.piece)
+    (piece_not_held c.args.by _ _ _ _ c.loop-length.tracer c.loop-length.invariant.so_far _ (take c.in_ok-length.length c.read_next.new.piece)
     c.in_ok-length.ensures.piece.1)
 
 pub returns-in_err-tell_steps-clause-stops : goal.returns-in_err-tell_steps-clause-stops
 returns-in_err-tell_steps-clause-stops g c =
     rw (exit-is c.from_residual-in_err-tell_steps.ensures.1)
-    (piece_stopped _ _ _ _ c.loop-length.tracer c.loop-length.invariant.so_far _ (take c.in_ok-length.length c.read_next.new.piece)
+    (piece_stopped c.args.by _ _ _ _ c.loop-length.tracer c.loop-length.invariant.so_far _ (take c.in_ok-length.length c.read_next.new.piece)
     c.in_ok-length.ensures.piece.1 c.push.new.self c.in_ok-push.ensures.pushed c.in_err-tell_steps.field-0.0 c.tell_steps.new.tracer _
     c.in_err-tell_steps.ensures.further)
 
@@ -46,11 +46,11 @@ loop-length-preserved g c =
     let short : length piece ≤ 16384 = omega (arith, length-take c.in_ok-length.length c.read_next.new.piece, c.in_ok-length.ensures.piece.0, c.read_next.ensures.room) in
     record {
       so_far =
-          piece_told _ _ _ _ c.loop-length.tracer invariant.so_far _ piece c.in_ok-length.ensures.piece.1 c.push.new.self c.in_ok-push.ensures.pushed
+          piece_told c.args.by _ _ _ _ c.loop-length.tracer invariant.so_far _ piece c.in_ok-length.ensures.piece.1 c.push.new.self c.in_ok-push.ensures.pushed
           c.tell_steps.new.tracer _ c.in_ok-tell_steps.ensures.further;
       counted = c.read_next.ensures.told invariant.counted;
       most = omega (arith, c.read_next.ensures.bound, invariant.most);
       few =
-          piece_few _ _ _ _ c.loop-length.tracer invariant.so_far _ piece c.in_ok-length.ensures.piece.1 c.push.new.self c.in_ok-push.ensures.pushed
+          piece_few c.args.by _ _ _ _ c.loop-length.tracer invariant.so_far _ piece c.in_ok-length.ensures.piece.1 c.push.new.self c.in_ok-push.ensures.pushed
           c.tell_steps.new.tracer _ c.loop-length.count.reads c.read_next.new.count.reads c.in_ok-tell_steps.ensures.further invariant.few c.in_ok-length.ensures.counted short;
     }

@@ -7,7 +7,7 @@ use Rattle.press_trace.proofs.tracing.tell_pieces.Given as goal
 abbrev pub invariant-loop-length : goal.invariant-loop-length
 invariant-loop-length g l =
     record {
-      so_far : TellsRead (g.R.ReadDevice.remaining l.fn.reader) (g.R.ReadDevice.remaining l.reader) (g.W.WriteDevice.contents l.fn.out) (g.W.WriteDevice.contents l.out) l.tracer;
+      so_far : TellsRead l.fn.by (g.R.ReadDevice.remaining l.fn.reader) (g.R.ReadDevice.remaining l.reader) (g.W.WriteDevice.contents l.fn.out) (g.W.WriteDevice.contents l.out) l.tracer;
       counted : l.count.reads ≤ g.R.ReadDevice.reads l.reader;
       most : l.count.reads ≤ most_reads;
       few : l.tracer.length ≤ 16384 * l.count.reads;

@@ -7,8 +7,9 @@ use Rattle.press_engine.proofs.StepLaws.{others_keep_the_page, rows_keep_other_l
 use Rattle.press_stream.specs.Steps.{DoesStep}
 use Rattle.press_stream.proofs.Going.{same_some}
 use Rattle.press_trace.specs.declared.tracer.Tracer.{Tracer}
+use Rattle.press_trace.specs.Lines.{IsLineOf}
 use Rattle.press_trace.specs.Pages.{KeepsRest}
-use Rattle.press_trace.specs.Tracing.{IsSound, Shows, TellsOne, place_if, told_before, touched_by}
+use Rattle.press_trace.specs.Tracing.{IsSound, Shows, TellsOne, place_if, placed_run, told_before, touched_by}
 use Rattle.press_trace.specs.declared.touched.Touched.{Touched}
 use Rattle.press_trace.proofs.StepLemmas.{fewer_held, kept_now, kept_page, kept_told, lies_so, line_at, place_is, rest_is_kept, step_did}
 use Rattle.press_trace.proofs.tracer.Tracer.next_line.Goals as goal
@@ -65,16 +66,21 @@ returns-in_ok-line-in-Ok-Ran-clause-tells c =
     let item : StepResult = record { machine = machine; outputs = all_outputs step.sent.items } in
     let new : Tracer = record (taken s) { before = c.tell.new.self.before; page = c.tell.new.self.page } in
     let tells : TellsOne old c.in_ok-line-in-Ok-Ran.line.items new = record {
-      item = item;
-      kind = step.kind;
-      does = does;
-      place =
-          c.place_behind-self.ensures
-          ∙ ap (λ held. place_if outside old.length held (length c.take_step.new.self.held.bytes) old.place) c.held-held.ensures
-          ∙ place_is old.job c.take_step.new.self item step.kind does outside old.length old.place c.is_idle-outside.ensures.none;
-      still = refl;
-      told = kept_told machine c.tell.new.self.before c.tell.new.self.page (c.in_ok-line-in-Ok-Ran.ensures.kept machine (shows s));
-      is_line = c.in_ok-line-in-Ok-Ran.ensures.line machine (shows s) (told_before old) c.requires.kept;
+      one = record {
+        item = item;
+        kind = step.kind;
+        does = does;
+        place =
+            c.place_behind-self.ensures
+            ∙ ap (λ held. place_if outside old.length held (length c.take_step.new.self.held.bytes) old.place) c.held-held.ensures
+            ∙ place_is old.job c.take_step.new.self item step.kind does outside old.length old.place c.is_idle-outside.ensures.none;
+        still = refl;
+        told = kept_told machine c.tell.new.self.before c.tell.new.self.page (c.in_ok-line-in-Ok-Ran.ensures.kept machine (shows s));
+      };
+      is_line =
+          subst (λ sent. IsLineOf 1 (told_before old) (placed_run c.place_behind-self.result machine (all_outputs sent)) c.in_ok-line-in-Ok-Ran.line.items)
+          c.deref.ensures.value
+          (c.in_ok-line-in-Ok-Ran.ensures.line machine (shows s) (told_before old) c.requires.kept);
     } in
     subst (λ (now : Tracer). TellsOne old c.in_ok-line-in-Ok-Ran.line.items now) (sym c.in_ok-line-in-Ok-Ran.ensures.others) tells
 

@@ -7,7 +7,7 @@ use Rattle.press_stream.specs.State.{JobState}
 use Rattle.press_trace.specs.declared.place.Place.{Place}
 use Rattle.press_trace.specs.declared.seen.Seen.{Seen}
 use Rattle.press_trace.specs.declared.tracer.Tracer.{Tracer}
-use Rattle.press_trace.specs.Lines.{IsViewOf, line_members, line_text}
+use Rattle.press_trace.specs.Lines.{IsViewOf, run_members, line_text}
 use Rattle.press_trace.specs.Seen.{IsAlikeIf}
 use Rattle.press_trace.proofs.StepLemmas.{is_line, keeps_now}
 use Rattle.press_trace.proofs.tracer.Tracer.tell.Goals as goal
@@ -24,14 +24,13 @@ returns-clause-line c = λ machine shows before keeps.
     ) in
     let line = c.in_ok-line.ensures in
     let alike = subst (λ (kept : Option Seen). IsAlikeIf kept line.0) (ap (λ (tracer : Tracer). tracer.before) stays) line.1 in
-    let out = rw c.deref.ensures.value at c.in_ok-went.ensures.went in
-    is_line before old.place machine (all_outputs c.args.step.now.sent.items) old.before old.page line.0 view
+    is_line c.args.steps before old.place machine (all_outputs c.args.sent.now) old.before old.page line.0 view
     (option_map told c.in_ok-page.page.opened) (option_map told c.in_ok-page.page.page) c.in_ok-went.went c.in_ok-line.line.items keeps
     alike is
-    (c.in_ok-page.ensures.told machine shows) out
+    (c.in_ok-page.ensures.told machine shows) c.in_ok-went.ensures.went
     (line.2
     ∙ ap (λ (place : Place).
-    line_text (line_members place c.in_ok-went.went.sheets c.in_ok-went.went.replies.items line.0 view
+    line_text (run_members c.args.steps place c.in_ok-went.went.sheets c.in_ok-went.went.replies.items line.0 view
     (option_map told c.in_ok-page.page.opened) (option_map told c.in_ok-page.page.page)))
     (ap (λ (tracer : Tracer). tracer.place) stays))
 

@@ -1,15 +1,15 @@
 use Rattle.press_units.proofs.ExitLemmas.{exit-is}
 use Rattle.press_trace.proofs.Telling.{end_stopped, end_told, flushed, not_begun, not_flushed}
-use Rattle.press_trace.proofs.tracing.trace_stream.Goals as goal
+use Rattle.press_trace.proofs.tracing.trace_by.Goals as goal
 
 pub returns-in_err-tracer-clause-stops : goal.returns-in_err-tracer-clause-stops
 returns-in_err-tracer-clause-stops g c =
-    rw (exit-is c.from_residual.ensures.1) (not_begun (g.R.ReadDevice.remaining c.args.reader.now) (g.W.WriteDevice.contents c.args.out.now))
+    rw (exit-is c.from_residual.ensures.1) (not_begun c.args.by (g.R.ReadDevice.remaining c.args.reader.now) (g.W.WriteDevice.contents c.args.out.now))
 
 pub returns-in_err-tell_steps-clause-stops : goal.returns-in_err-tell_steps-clause-stops
 returns-in_err-tell_steps-clause-stops g c =
     rw (exit-is c.from_residual-in_err-tell_steps.ensures.1)
-    (end_stopped _ _ _ _ c.tell_pieces.new.tracer c.in_ok-tell_pieces.ensures.told c.end_input.new.self c.end_input.ensures
+    (end_stopped c.args.by _ _ _ _ c.tell_pieces.new.tracer c.in_ok-tell_pieces.ensures.told c.end_input.new.self c.end_input.ensures
     c.in_err-tell_steps.field-0.0 c.tell_steps.new.tracer _ c.in_err-tell_steps.ensures.further)
 
 pub returns-in_err-tell_steps-clause-unread : goal.returns-in_err-tell_steps-clause-unread
@@ -19,14 +19,14 @@ returns-in_err-tell_steps-clause-unread g c =
 pub returns-in_err-flush_all-clause-stops : goal.returns-in_err-flush_all-clause-stops
 returns-in_err-flush_all-clause-stops g c =
     rw (exit-is c.from_residual-in_err-flush_all.ensures.1)
-    (not_flushed _ _ _ _ _ _
-    (end_told _ _ _ _ c.tell_pieces.new.tracer c.in_ok-tell_pieces.ensures.told c.end_input.new.self c.end_input.ensures
+    (not_flushed c.args.by _ _ _ _ _ _
+    (end_told c.args.by _ _ _ _ c.tell_pieces.new.tracer c.in_ok-tell_pieces.ensures.told c.end_input.new.self c.end_input.ensures
     c.tell_steps.new.tracer _ c.in_ok-tell_steps.ensures.further)
     c.flush_all.ensures.bytes)
 
 pub returns-clause-traces : goal.returns-clause-traces
 returns-clause-traces g c =
-    flushed _ _ _ _ _
-    (end_told _ _ _ _ c.tell_pieces.new.tracer c.in_ok-tell_pieces.ensures.told c.end_input.new.self c.end_input.ensures
+    flushed c.args.by _ _ _ _ _
+    (end_told c.args.by _ _ _ _ c.tell_pieces.new.tracer c.in_ok-tell_pieces.ensures.told c.end_input.new.self c.end_input.ensures
     c.tell_steps.new.tracer _ c.in_ok-tell_steps.ensures.further)
     c.flush_all.ensures.bytes
