@@ -20,7 +20,7 @@ use Rattle.press_words.specs.View.{AsksHelp, IsForMemory, made_seen, request_see
 use Rattle.press_words.specs.declared.words.Refusal.{Refusal}
 use Rattle.press_words.specs.declared.words.Refusal.TheVariants as refusals
 use Rattle.press_words.specs.Defaults.{with_prefix}
-use Rattle.press_words.specs.Words.{Source, Standard, FileNamed, Arguments, Made, Listed, SummedOf, FilesBy, Answered, AsText, DebuggedOf, TracedOf, PageTo, StreamTo, JobTo}
+use Rattle.press_words.specs.Words.{Source, Standard, FileNamed, Arguments, Made, Listed, SummedOf, FilesBy, Answered, AsText, DebuggedOf, TracedOf, RunsOf, PageTo, StreamTo, JobTo}
 use Rattle.press_sink.specs.Outputs.{MadeOutput}
 use Rattle.press_files.specs.Files.{DoesNothing}
 use Rattle.press_sessions.specs.Debugging.{IsUnopened}
