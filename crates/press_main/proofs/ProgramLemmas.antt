@@ -134,6 +134,7 @@ Makes-closed (DebuggedOf prefix name) inputs file status edge closed (debugs, no
     let stream = with_prefix prefix (inputs name).bytes in
     (Debugging-closed (inputs name).IsMissing (inputs name).IsMissing file status stream edge (λ missing. missing) closed debugs, none)
 Makes-closed (TracedOf prefix) inputs file status edge closed makes = makes
+Makes-closed (RunsOf prefix) inputs file status edge closed makes = makes
 Makes-closed (PageTo prefix steps name) inputs file status edge closed makes = makes
 Makes-closed (StreamTo name) inputs file status edge closed makes = makes
 Makes-closed (JobTo name images) inputs file status edge closed makes = makes
