@@ -12,7 +12,9 @@ _press() {
     mapfile -t COMPREPLY < <(compgen -W "$defaults" -- "$word")
   elif [ "$first" = print ] && [[ "$word" == -* ]]; then
     mapfile -t COMPREPLY < <(compgen -W "--list --sums --default" -- "$word")
-  elif [[ "$first" = @(debug|trace|page) ]] && [[ "$word" == -* ]]; then
+  elif [ "$first" = trace ] && [[ "$word" == -* ]]; then
+    mapfile -t COMPREPLY < <(compgen -W "--runs --default" -- "$word")
+  elif [[ "$first" = @(debug|page) ]] && [[ "$word" == -* ]]; then
     mapfile -t COMPREPLY < <(compgen -W "--default" -- "$word")
   elif [ "$first" = press ] && [ "${COMP_WORDS[COMP_CWORD-1]}" = --engines ]; then
     mapfile -t COMPREPLY < <(compgen -W "1 2 3 4" -- "$word")

@@ -236,9 +236,88 @@ SET = f"trace --default COPIES=2 {named(bytes([12]))}", 0, lines_of(
     (34, 0, "uel", {}),
 ), b""
 
+def in_runs(stream, *steps):
+    """The same with `--runs`: of a run the number of its steps is told, which go on by as many."""
+    words, status, lines, given = asked(stream, *steps)
+    told, step = [], 0
+    for line in map(json.loads, lines.splitlines()):
+        step += line.get("steps", 1)
+        told.append(json.dumps(line | {"step": step}, ensure_ascii=False, separators=(",", ":"), sort_keys=True) + "\n")
+    return words.replace("trace ", "trace --runs ", 1), status, "".join(told), given
+
+
+def run(at, size, last="txt", **others):
+    return at, size, last, others | ({"steps": size} if size > 1 else {})
+
+
+# Text, up to a control character, which has an effect; one byte by itself has its own line. What a command changes is told behind it.
+RUNS = in_runs(
+    b"\x1bEHello\rab\nc\x1b*p1xde\x1bE",
+    (0, 2, "esc E", {}),
+    run(2, 5),
+    (7, 1, "ctl 0D", {}),
+    run(8, 2),
+    (10, 1, "ctl 0A", {"y": 2100}),
+    run(11, 1),
+    (12, 5, "par *pX", {"x": 24}),
+    (17, 1, "par *pD", {}),
+    (18, 1, "par *pE", {}),
+    (19, 2, "esc E", {"x": 0, "y": 900}),
+    (21, 0, "uel", {}),
+)
+# While HP-GL/2 is on control characters do nothing, and stand in a run with text, escape sequences apart.
+PLOT = in_runs(
+    b"\x1b%0BPU1;\r\nPD;\x1b&l1X\x0c;\x1b%0A\nx",
+    (0, 4, "par %B", {"view": {"settings": POWER_ON["settings"] | {"hp_gl": True}}}),
+    run(4, 9),
+    (13, 5, "par &lX", {}),
+    run(18, 2),
+    (20, 4, "par %A", {"view": {"settings": {"hp_gl": False}}}),
+    (24, 1, "ctl 0A", {"y": 2100}),
+    run(25, 1),
+    (26, 0, "uel", {"y": 900}),
+)
+# Bytes of another language, up to an escape character, which stands by itself, and to the universal exit; the last of a run is told.
+LANGUAGE = in_runs(
+    b"@PJL ENTER LANGUAGE=PLAIN\n%!\n1\x1bE1\x1b%-12345Xab\rcd",
+    (0, 26, "pjl", {"view": {}}),
+    run(26, 4, "for"),
+    run(30, 1, "for"),
+    run(31, 2, "for"),
+    (33, 9, "uel", {}),
+    run(42, 1),
+    run(43, 1),
+    (44, 1, "ctl 0D", {}),
+    run(45, 2),
+    (47, 0, "uel", {}),
+)
+# What is recorded is no run, and nor is what a macro runs; a sequence that is left open stands before a byte by itself.
+RECORDED = in_runs(
+    b"\x1b&f1y0Xab\x1b&f1X\x1b&f2x cd",
+    (0, 5, "par &fY", {"view": {"macros": POWER_ON["macros"] | {"id": 1}}}),
+    (5, 2, "par &fX", {"view": {"macros": {"defining": 1}}}),
+    (7, 1, "txt", {"recorded": True}),
+    (8, 1, "txt", {"recorded": True}),
+    (9, 5, "par &fX", {"view": {"macros": {"defining": None}}}),
+    (14, 5, "par &fX", {"depth": 1}),
+    (14, 5, "txt", {"depth": 1}),
+    (14, 5, "txt", {"depth": 0}),
+    run(19, 1),
+    run(20, 2),
+    (22, 0, "uel", {"view": {"macros": {"id": 0}}}),
+)
+# The first byte of a stream stands by itself, and the first line tells all; 16,384 bytes are read at a time.
+PIECES = in_runs(
+    b"a" * 20000,
+    run(0, 1),
+    run(1, 16383),
+    run(16384, 3616),
+    (20000, 0, "uel", {}),
+)
+
 REFUSED = [
     ("trace none", 1, "fault 304\n", b""),
     ("trace /", 1, "fault 304\n", b""),
 ]
 
-ROWS = [EMPTY, BOX, MARKS, BODY, BROKEN, REPLIES, CONTROLS, DRAWING, LINES, ROWS_OF_RASTER, MEDIA, VARIABLES_SET, COUNTS, *TURNED, SET, *REFUSED]
+ROWS = [EMPTY, BOX, MARKS, BODY, BROKEN, REPLIES, CONTROLS, DRAWING, LINES, ROWS_OF_RASTER, MEDIA, VARIABLES_SET, COUNTS, *TURNED, SET, RUNS, PLOT, LANGUAGE, RECORDED, PIECES, *REFUSED]

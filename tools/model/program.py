@@ -15,6 +15,7 @@ from .press_lines import BAD_TEMPLATE, NUMBER, FileFault, read_file, read_image
 READ_FAULT = 304
 PAGE_FAULT, TEXT_FAULT, JOB_FAULT = 301, 115, 614
 STANDARD_OUTPUT = "/dev/stdout"
+RUNS = "--runs"
 FULL = "/dev/full"  # can be opened, and takes no byte
 
 
@@ -153,9 +154,10 @@ class Program:
         self.out += debug_lines.DebugLines(self.read(source)).run(self.given).encode()
 
     def trace(self, words):
-        front, words = with_defaults(words)
+        runs = RUNS in words
+        front, words = with_defaults([word for word in words if word != RUNS])
         source, = exactly(1, words)
-        self.out += b"".join(trace_lines.lines(front + self.read(source)))
+        self.out += b"".join(trace_lines.lines(front + self.read(source), runs))
 
     def page(self, words):
         """The open page behind so many steps, a white one where none has a mark; past the end that of the end, which is said."""

@@ -8,7 +8,7 @@ import itertools
 import json
 
 from . import pages
-from .commands import EXIT, Uel, closing, head
+from .commands import ESC, EXIT, FOREIGN, PCL, Control, Foreign, Text, Uel, closing, head
 from .engine import RECORDED, Deliver, Engine
 from .table import PAGE_SIZES
 
@@ -16,6 +16,7 @@ SIZE_CODES = {name: number for number, name in PAGE_SIZES.items()}
 PAPER_CODES = {name.upper(): number for name, number in SIZE_CODES.items()}
 BINDINGS = {"LONGEDGE": 1, "SHORTEDGE": 2}
 CONTROLS = {number: "\\u%04x" % number for number in range(0x7F, 0xA0)}  # of a terminal, which JSON leaves as they are
+PIECE = 16384     # bytes of a stream that are read at a time
 ORIENTATIONS = {b"PORTRAIT": pages.PORTRAIT, b"LANDSCAPE": pages.LANDSCAPE}
 
 
@@ -148,16 +149,22 @@ def told_fields(before, after):
 
 def placed(stream):
     """The commands of a stream and of its end, each with its place and how many bytes it has; the exit that is added stands behind them."""
+    for place, size, command, _ in in_modes(stream):
+        yield place, size, command
+
+
+def in_modes(stream):
+    """The same, with the mode in which each stands."""
     mode, place = EXIT, 0
     while (found := head(mode, stream, place)) is not None:
-        command, after, mode = found
-        yield place, after - place, command
-        place = after
+        command, after, behind = found
+        yield place, after - place, command, mode
+        place, mode = after, behind
     rest = closing(mode, stream[place:])
     for number, command in enumerate(rest):
         size = (len(stream) - place) // len(rest)
-        yield place + number * size, size, command
-    yield len(stream), 0, Uel()
+        yield place + number * size, size, command, EXIT
+    yield len(stream), 0, Uel(), EXIT
 
 
 class Teller:
@@ -206,6 +213,39 @@ def told_by(teller, stream):
         yield teller.line(at, size)
 
 
+def only_counts(state, command, mode):
+    """Whether a command outside of bodies is one of a run: a byte of text or of another language, and a control character while HP-GL/2 is on, where no
+    macro is defined; but not the first behind a universal exit, or behind a sequence that is left open, and no escape character."""
+    of_a_byte = isinstance(command, (Text, Foreign)) and command != Foreign(ESC) or isinstance(command, Control) and state.hpgl
+    return of_a_byte and state.defining is None and mode in (PCL, FOREIGN)
+
+
+def run_steps(stream):
+    """What each line of the runs tells: of each the last step, the place of all, and how many they are. A run ends with a piece of the stream."""
+    teller, held = Teller(), []
+    for at, size, command, mode in in_modes(stream):
+        counts = only_counts(teller.engine.state, command, mode)
+        if held and not (counts and at % PIECE):
+            yield from joined(held)
+        for _ in teller.engine.run(command):
+            yield teller.line(at, size)
+        line = teller.line(at, size)
+        if counts:
+            held.append(line)
+        else:
+            yield line
+    yield from joined(held)
+
+
+def joined(held):
+    """The line of a run of these, if there are any, which are none then."""
+    if held:
+        first, last, steps = held[0], held[-1], len(held)
+        held.clear()
+        run = {"at": first["at"], "bytes": last["at"] + last["bytes"] - first["at"], "steps": steps}
+        yield last | run if steps > 1 else last
+
+
 def opened(stream):
     """The open page behind each number of steps, from none on; a white one where none has a mark."""
     engine = Engine()
@@ -220,5 +260,5 @@ def text_of(told):
     return (json.dumps(told, ensure_ascii=False, separators=(",", ":"), sort_keys=True).translate(CONTROLS) + "\n").encode()
 
 
-def lines(stream):
-    return map(text_of, steps(stream))
+def lines(stream, runs=False):
+    return map(text_of, run_steps(stream) if runs else steps(stream))

@@ -20,8 +20,8 @@ USAGES = {
     "press": [],
 }
 LISTS = ("--list", "--sums")
-OPTIONS = {"print": "--list] [--sums", "press": "--engines N] [--out TEMPLATE] [--sums] [--keep-going"}
-FLAGS = {"print": LISTS, "press": ("--sums", "--keep-going")}
+OPTIONS = {"print": "--list] [--sums", "trace": "--runs", "press": "--engines N] [--out TEMPLATE] [--sums] [--keep-going"}
+FLAGS = {"print": LISTS, "trace": ("--runs",), "press": ("--sums", "--keep-going")}
 HELP = ("-h", "--help", "help", "-V", "--version")
 
 

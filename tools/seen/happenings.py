@@ -26,6 +26,20 @@ OTHER_KIND = (ord("*"), ord("b"), ord("W"))
 HEAD = re.compile(rb"(?:\x1b\*b)?([^Ww]*)[Ww]")     # of a row, and its value
 
 
+FIRST_TEXT = 0x20
+RUN = re.compile(rb"[\x20-\xff]+|[\0-\x1f]")
+
+
+def pieces_of(whole, at, end, alone):
+    """Where bytes of a run begin that are one happening, and how many they are: text bytes that stand together, unless they stand alone before the first
+    control byte, and each control byte."""
+    for found in RUN.finditer(whole, at, end):
+        place, behind = found.span()
+        is_text = whole[place] >= FIRST_TEXT
+        yield from [(one, 1) for one in range(place, behind)] if alone and is_text else [(place, behind - place)]
+        alone = alone and is_text
+
+
 class Mark:
     """The dots that a command changed on the page of this number, and their box, whose ends are within, which is looked for when it is asked for."""
 
@@ -211,7 +225,7 @@ class Run:
         self.whole = front + stream
         self.chosen = chosen
         self.who = traced.who(chosen)
-        self.texts, self.text = traced.texts(self.whole, chosen), None
+        self.texts, self.text = traced.texts(self.whole, chosen, runs=watch is None), None
         self.fields = Fields()
         self.follower = Follower(self.fields.go_on(power_on(chosen)), row_of)
         self.leaves, self.marks, self.watcher = Leaves(), Marks(), sent.Watcher()
@@ -229,6 +243,10 @@ class Run:
                 yield self.carry_out_row(found)
                 continue
             line = traced.told(text)
+            if "steps" in line:
+                yield from self.pass_run(line, alone)
+                alone = alone and RUN.fullmatch(self.whole, line["at"], line["at"] + line["bytes"]) is not None
+                continue
             placed = self.placer.placed(line)
             if not placed.length:
                 break
@@ -278,6 +296,21 @@ class Run:
         if watch:
             watch(self, last, None)
         return happening._replace(placed=placed._replace(length=place - line["at"]), resolution=now["resolution"], before=before)
+
+    def pass_run(self, line, alone):
+        """The happenings of a run of bytes that change nothing but the number of steps: text bytes one, or each one where they stand alone, those of
+        another language one, and each control byte one."""
+        before, shift, at, kind = self.follower.fields, self.placer.shift, line["at"], line["last"]
+        self.follower.fields = self.fields.go_on(line)
+        self.placer.before = kind, b""
+        resolution, page, known = before["resolution"], self.leaves.closed, {}
+        for place, size in [(at, line["bytes"])] if kind == "for" else pieces_of(self.whole, at, at + line["bytes"], alone):
+            first = self.whole[place]
+            if first not in known:
+                command = (commands.Foreign if kind == "for" else commands.Text if first >= FIRST_TEXT else commands.Control)(first)
+                known[first] = command, (row := row_of(command)) and row.name, self.follower.how(command, line, before)
+            command, name, how = known[first]
+            yield Happening(Placed(place - shift, size, command), name, how, None, (), (), 0, (), b"", 0, page, 0, resolution, before, sent.NOTHING, True)
 
     def takes_rows(self):
         """Whether a row would be carried out, within raster graphics."""

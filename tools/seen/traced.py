@@ -15,13 +15,13 @@ def who(chosen=program.PROGRAM):
     return f"{program.who(chosen)}, by press trace"
 
 
-def texts(stream, chosen=program.PROGRAM):
-    """The lines as they stand, one after another."""
+def texts(stream, chosen=program.PROGRAM, runs=False):
+    """The lines as they stand, one after another; steps that do no more than count in runs, where that is asked for."""
     chosen = program.answering(chosen)
     with tempfile.TemporaryFile() as given, tempfile.TemporaryFile() as said:
         given.write(stream)
         given.seek(0)
-        with subprocess.Popen([chosen, "trace", "-"], stdin=given, stdout=subprocess.PIPE, stderr=said, bufsize=AT_ONCE) as running:
+        with subprocess.Popen([chosen, "trace", *["--runs"][:runs], "-"], stdin=given, stdout=subprocess.PIPE, stderr=said, bufsize=AT_ONCE) as running:
             yield from running.stdout
         if running.returncode:
             said.seek(0)

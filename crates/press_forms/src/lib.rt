@@ -9,4 +9,4 @@ mod traced;
 pub use assembly::{TextError, asm_text, assembled};
 pub use disassembly::disasm_bytes;
 pub use paging::{PagingError, page_file};
-pub use traced::tell_trace;
+pub use traced::{tell_by, tell_trace};

@@ -20,7 +20,7 @@ use Rattle.press_words.specs.View.{AsksHelp, IsForMemory, made_seen, request_see
 use Rattle.press_words.specs.declared.words.Refusal.{Refusal}
 use Rattle.press_words.specs.declared.words.Refusal.TheVariants as refusals
 use Rattle.press_words.specs.Defaults.{with_prefix}
-use Rattle.press_words.specs.Words.{Source, Standard, FileNamed, Arguments, Made, Listed, SummedOf, FilesBy, Answered, AsText, DebuggedOf, TracedOf, PageTo, StreamTo, JobTo}
+use Rattle.press_words.specs.Words.{Source, Standard, FileNamed, Arguments, Made, Listed, SummedOf, FilesBy, Answered, AsText, DebuggedOf, TracedOf, RunsOf, PageTo, StreamTo, JobTo}
 use Rattle.press_sink.specs.Outputs.{MadeOutput}
 use Rattle.press_files.specs.Files.{DoesNothing}
 use Rattle.press_sessions.specs.Debugging.{IsUnopened}
@@ -134,6 +134,7 @@ Makes-closed (DebuggedOf prefix name) inputs file status edge closed (debugs, no
     let stream = with_prefix prefix (inputs name).bytes in
     (Debugging-closed (inputs name).IsMissing (inputs name).IsMissing file status stream edge (λ missing. missing) closed debugs, none)
 Makes-closed (TracedOf prefix) inputs file status edge closed makes = makes
+Makes-closed (RunsOf prefix) inputs file status edge closed makes = makes
 Makes-closed (PageTo prefix steps name) inputs file status edge closed makes = makes
 Makes-closed (StreamTo name) inputs file status edge closed makes = makes
 Makes-closed (JobTo name images) inputs file status edge closed makes = makes

@@ -27,9 +27,10 @@ use Rattle.press_files.specs.NamedInputs.{NamedInput}
 use Rattle.press_forms.specs.Paging.{Paging}
 use Rattle.press_sessions.specs.Sessions.{Plays, Stops}
 use Rattle.press_telling.specs.Telling.{output_text, Ended, Tells, as_line}
-use Rattle.press_forms.specs.Traced.{Tracing}
+use Rattle.press_forms.specs.Traced.{Tracing, TracingBy}
+use Rattle.press_trace.specs.declared.line_of.LineOf.TheVariants.{Run}
 use Rattle.press_words.specs.View.{AsksHelp}
-use Rattle.press_words.specs.Words.{Source, Standard, FileNamed, Made, Listed, SummedOf, FilesBy, SessionAsked, Answered, AsText, DebuggedOf, TracedOf, PageTo, StreamTo, JobTo, Arguments, arguments}
+use Rattle.press_words.specs.Words.{Source, Standard, FileNamed, Made, Listed, SummedOf, FilesBy, SessionAsked, Answered, AsText, DebuggedOf, TracedOf, RunsOf, PageTo, StreamTo, JobTo, Arguments, arguments}
 
 -- A text was assembled into an output of this name, or not.
 abbrev pub Assembling : (fails : Failures) (name : Text) (status : ℕ) (told read : Change (Option (List ℕ))) (made : Change (Option (List MadeOutput))) → Type 0
@@ -100,6 +101,8 @@ Makes (DebuggedOf prefix name) inputs status edge =
     Debugging (inputs name).IsMissing status (with_prefix prefix (inputs name).bytes) edge × MakesNothing edge
 Makes (TracedOf prefix) inputs status edge =
     HoldsBehind prefix edge.read.before edge.read.after (λ had left. Tracing (writing edge.fails) status edge.told (change had left) edge.written) × MakesNothing edge
+Makes (RunsOf prefix) inputs status edge =
+    HoldsBehind prefix edge.read.before edge.read.after (λ had left. TracingBy Run (writing edge.fails) status edge.told (change had left) edge.written) × MakesNothing edge
 Makes (PageTo prefix steps name) inputs status edge =
     HoldsBehind prefix edge.read.before edge.read.after (λ had left. Paging (making edge.fails) steps name status edge.told (change had left) edge.made) × WritesNothing edge
 Makes (StreamTo name) inputs status edge = Assembling edge.fails name status edge.told edge.read edge.made × WritesNothing edge

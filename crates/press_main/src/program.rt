@@ -9,7 +9,7 @@ ghost use Rattle.press_words.specs.Defaults.{HoldsBehind, with_prefix};
 ghost use Rattle.press_files.specs.NamedInputs.{named};
 ghost use Rattle.press_forms.specs.Paging.{Paging};
 ghost use Rattle.press_main.specs.Program.{Debugging, Makes, MakesSparing, Performs, RefusesBy, Runs, Writing};
-ghost use Rattle.press_forms.specs.Traced.{Tracing};
+ghost use Rattle.press_forms.specs.Traced.{TracingBy};
 ghost use Rattle.press_words.specs.View.{made_seen, request_seen, status_of};
 
 use crate::behind::Behind;
@@ -17,10 +17,11 @@ use crate::making::{asm_file, job_file};
 use crate::sparing::spare_inputs;
 use press_devices::{ReadDevice, WriteDevice, write_flushed};
 use press_files::{NamedInputs, print_files, print_list, print_sums};
-use press_forms::{disasm_bytes, page_file, tell_trace};
+use press_forms::{disasm_bytes, page_file, tell_by};
 use press_sessions::{debug_lines, press_lines};
 use press_sink::NamedOutputs;
 use press_telling::{NO_OUTPUT, Teller, report};
+use press_trace::LineOf;
 use press_units::NO_MEMORY;
 use press_words::{Input, Output, REFUSED, Refusal, Request, request_of};
 use std::alloc::{AllocError, Global};
@@ -308,7 +309,16 @@ fn make<
             outputs,
         },
         Output::Traced(prefix) => {
-            let (status, input) = trace_behind(alloc, prefix, reader, &mut out, err);
+            let (status, input) = trace_behind(LineOf::Step, alloc, prefix, reader, &mut out, err);
+            Performed {
+                status,
+                input,
+                out,
+                outputs,
+            }
+        }
+        Output::Runs(prefix) => {
+            let (status, input) = trace_behind(LineOf::Run, alloc, prefix, reader, &mut out, err);
             Performed {
                 status,
                 input,
@@ -350,6 +360,7 @@ fn make<
 
 /// Tells the trace of the stream of these bytes and those that a reader has behind them.
 fn trace_behind<R: ReadDevice + Drop, W: WriteDevice, E: Teller>(
+    by: LineOf,
     alloc: Global,
     prefix: &[u8],
     mut reader: R,
@@ -358,21 +369,21 @@ fn trace_behind<R: ReadDevice + Drop, W: WriteDevice, E: Teller>(
 ) -> (u8, R)
     ensures flushed { result.0 ≡ 0 → W.waiting out.new ≡ false }
     ensures traces { HoldsBehind prefix.now (R.remaining reader) (R.remaining result.1)
-        (λ had left. Tracing
+        (λ had left. TracingBy by
         (failures (ReadFails (R.failed result.1) (R.reads result.1))
         ⊥ (W.failed out.new ≡ true) ⊥) result.0
         (change (E.said err.old) (E.said err.new)) (change had left)
         (change (W.contents out.old) (W.contents out.new))) }
 {
     if prefix.is_empty() {
-        let status = tell_trace(alloc, &mut reader, out, err);
+        let status = tell_by(by, alloc, &mut reader, out, err);
         return (status, reader);
     }
     let mut traced = Behind {
         bytes: prefix,
         reader,
     };
-    let status = tell_trace(alloc, &mut traced, out, err);
+    let status = tell_by(by, alloc, &mut traced, out, err);
     (status, traced.reader)
 }
 

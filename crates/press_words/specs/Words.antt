@@ -26,7 +26,7 @@ pub record SessionAsked : Type 0 where
 
 -- What is made of an input. A prefix is bytes that stand in front of the stream.
 -- Listed: the listing of a stream. SummedOf: the same with a digest of each side. FilesBy: the files of a stream, named by a template. AsText: the assembly text of a stream. TracedOf:
--- the trace of a stream. PageTo: the file of this name, of the page that is open behind so many steps of a stream. DebuggedOf: a
+-- the trace of a stream. RunsOf: the same, with a line for each run of steps that do no more than count. PageTo: the file of this name, of the page that is open behind so many steps of a stream. DebuggedOf: a
 -- debugger's answers to lines, over the stream of this file. Answered: the answers of a press that is asked for so to lines of events, the
 -- files of the sides that it delivers, where they are asked for, and their listing. StreamTo: the file of this name, of an assembly text. JobTo: the file of this name, the job of a
 -- ticket with the images of these files.
@@ -38,6 +38,7 @@ pub data Made : Type 0 where
   AsText : Made
   DebuggedOf : (prefix : List ℕ) (name : Text) → Made
   TracedOf : (prefix : List ℕ) → Made
+  RunsOf : (prefix : List ℕ) → Made
   PageTo : (prefix : List ℕ) (steps : ℕ) (name : Text) → Made
   StreamTo : Text → Made
   JobTo : (name : Text) (images : List Text) → Made
@@ -76,9 +77,12 @@ disasm_app = with_rule (new_app (codes "disasm")) (needed_rule (codes "IN"))
 abbrev pub debug_app : App
 debug_app = with_rule (with_rule (new_app (codes "debug")) default_rule) (needed_rule (codes "IN"))
 
--- The words of `trace`: any number of defaults, and the input.
+-- The words of `trace`: the flag of runs, any number of defaults, and the input.
+abbrev pub runs_rule : Rule
+runs_rule = record (new_rule (codes "runs")) { long = Some (codes "runs"); action = Some SetTrue }
+
 abbrev pub trace_app : App
-trace_app = with_rule (with_rule (new_app (codes "trace")) default_rule) (needed_rule (codes "IN"))
+trace_app = with_rule (with_rule (with_rule (new_app (codes "trace")) runs_rule) default_rule) (needed_rule (codes "IN"))
 
 -- The words of `page`: any number of defaults, the input, how many steps, and the output.
 abbrev pub page_app : App
@@ -179,9 +183,12 @@ abbrev pub debug_arguments : List Row → Option Arguments
 debug_arguments rows = option_and_then (λ prefix. option_and_then (debug_of prefix) (first_of (codes "IN") rows)) (prefix_in rows)
 
 -- what `trace` asks for
+abbrev pub traced_as : (runs : Bool) → (prefix : List ℕ) → Made
+traced_as runs prefix = if runs then RunsOf prefix else TracedOf prefix
+
 abbrev pub trace_arguments : List Row → Option Arguments
 trace_arguments rows =
-    option_and_then (λ prefix. option_map (λ name. record { source = source_of name; made = TracedOf prefix })
+    option_and_then (λ prefix. option_map (λ name. record { source = source_of name; made = traced_as (is_set (codes "runs") rows) prefix })
     (first_of (codes "IN") rows)) (prefix_in rows)
 
 -- what `page` asks for: the steps are a number, and the page is made a file

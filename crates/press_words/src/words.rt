@@ -3,7 +3,7 @@ ghost use Rattle.std.specs.Prelude.{◌≡◌, ◌≢◌, ◌⊎◌, IfOk, IfErr
 ghost use Rattle.clap.specs.Words.{app_of, rule_of, new_app, new_rule, with_rule, kind_of, rows_of, found_of, subcommand_of, subcommand_rows_of, fault_of, FailsBy};
 ghost use Rattle.clap.specs.declared.builder.command.Command.TheViews.{out-Command};
 ghost use Rattle.clap.specs.declared.error.kind.ErrorKind.TheVariants.{OutOfMemory};
-ghost use Rattle.press_words.specs.Words.{list_rule, sums_rule, default_rule, needed_rule, images_rule, print_app, asm_app, disasm_app, debug_app, trace_app, page_app, write_app, session_app, program_app, press_app, source_of, made_behind, made_of, made_named, made_in, images_of, defaults_of, prefix_in, print_arguments, asm_arguments, disasm_arguments, debug_of, debug_arguments, trace_arguments, steps_in, page_to, page_arguments, job_arguments, session_arguments, subcommand_named, arguments_of, arguments_by, arguments, is_set};
+ghost use Rattle.press_words.specs.Words.{list_rule, sums_rule, runs_rule, default_rule, needed_rule, images_rule, print_app, asm_app, disasm_app, debug_app, trace_app, page_app, write_app, session_app, program_app, press_app, source_of, made_behind, made_of, made_named, made_in, images_of, defaults_of, prefix_in, print_arguments, asm_arguments, disasm_arguments, debug_of, debug_arguments, traced_as, trace_arguments, steps_in, page_to, page_arguments, job_arguments, session_arguments, subcommand_named, arguments_of, arguments_by, arguments, is_set};
 ghost use Rattle.press_words.specs.View.{AsksHelp, source_seen, made_seen, request_seen, status_of, IsForMemory};
 
 use crate::defaults::{are_assignments, prefix_of};
@@ -91,6 +91,8 @@ pub enum Output<'a> {
     Debugged(Vec<u8>, &'a str),
     /// The lines of the trace of a stream, with these bytes in front of it.
     Traced(Vec<u8>),
+    /// The same, with a line for each run of steps that do no more than count.
+    Runs(Vec<u8>),
     /// The file of this name, of the page that is open behind so many steps of a stream, with these bytes in front of it.
     Page(Vec<u8>, u64, &'a str),
     /// The file of this name, of the bytes of assembly text.
@@ -186,6 +188,19 @@ pub(crate) fn sums_flag<'a>(alloc: Global) -> Arg<'a>
         .long("sums")
         .action(ArgAction::SetTrue)
         .help("Lists the sheets, with the SHA-256 of the file of each side behind its line")
+}
+
+/// The flag that asks for runs of steps.
+fn runs_flag<'a>(alloc: Global) -> Arg<'a>
+    ensures rule { rule_of result ≡ runs_rule }
+    ensures local { result.global ≡ false }
+{
+    Arg::new(alloc, "runs")
+        .long("runs")
+        .action(ArgAction::SetTrue)
+        .help(
+            "Tells steps that do no more than count, as those of text, in one line with their number",
+        )
 }
 
 /// The option of a default.
@@ -302,6 +317,7 @@ fn trace_command<'a>(alloc: Global) -> Result<Command<'a>, AllocError>
 {
     Command::new(alloc, "trace")
         .about("Tells what a stream does, step by step, in a line of JSON for each")
+        .arg(runs_flag(alloc))?
         .arg(default_option(alloc))?
         .arg(needed_word(
             alloc,
@@ -602,6 +618,16 @@ fn debug_request<'a>(
     }
 }
 
+/// The trace of a stream with these bytes in front of it, by runs or not.
+fn traced_as<'a>(runs: bool, prefix: Vec<u8>) -> Output<'a>
+    ensures { made_seen result ≡ traced_as runs prefix.items }
+{
+    if runs {
+        return Output::Runs(prefix);
+    }
+    Output::Traced(prefix)
+}
+
 /// What the matches of `trace` ask for.
 #[tactic(auto, using(crate::proofs::WordsLemmas::value_by_rows))]
 fn trace_request<'a>(
@@ -619,7 +645,7 @@ fn trace_request<'a>(
     };
     Ok(Some(Request {
         input: input_named(name),
-        output: Output::Traced(prefix),
+        output: traced_as(has_flag(matches, "runs"), prefix),
     }))
 }
 
