@@ -23,7 +23,7 @@ pub returns-in-Traced-clause-makes : goal.returns-in-Traced-clause-makes
 returns-in-Traced-clause-makes g c = rw (c.in-Traced.is, ← c.deref-in-Traced.ensures.value) (c.trace_behind-status.ensures.traces, refl)
 
 pub returns-in-Runs-clause-makes : goal.returns-in-Runs-clause-makes
-returns-in-Runs-clause-makes g c = rw (c.in-Runs.is, ← c.deref-in-Runs.ensures.value) (c.trace_behind-status-2.ensures.traces, refl)
+returns-in-Runs-clause-makes g c = rw (c.in-Runs.is, ← c.deref-in-Runs.ensures.value) (c.trace_behind-status-in-Runs.ensures.traces, refl)
 
 pub returns-in-Page-clause-makes : goal.returns-in-Page-clause-makes
 returns-in-Page-clause-makes g c = rw (c.in-Page.is, ← c.deref-in-Page.ensures.value) (c.page_behind-status.ensures.pages, refl)

@@ -44,7 +44,7 @@ shows c =
     rest_is_kept others_keep_the_page rows_keep_other_lines old.job c.take_step.new.self item kind does outside orientation one other c.is_idle-outside.ensures.none
     (lies_so c.view-view.result old.job.machine does.from c.view-view.ensures.view does.starts)
     (line_at one c.view-view.result old.job.machine does.from c.row_line-before.ensures.line c.view-view.ensures.view does.starts)
-    (line_at other c.view-in-Ok-Ran.result c.take_step.new.self.machine machine c.row_line-behind.ensures.line c.view-in-Ok-Ran.ensures.view does.ends) in record {
+    (line_at other c.view.result c.take_step.new.self.machine machine c.row_line-behind.ensures.line c.view.ensures.view does.ends) in record {
       running = does.ends;
       keeps = subst (λ (touched : Touched). KeepsRest touched old.page machine.state.page) (sym c.touched_by.ensures)
           (subst (λ (page : Option Page). KeepsRest (touched_by outside kind orientation one other) page machine.state.page) (sym (c.requires.shown does.from does.starts)) rest);
