@@ -66,7 +66,7 @@ WORDS = [
     Mistake("disasm", 2, ("IN is missing",)),
     Mistake("debug", 2, ("IN is missing",)),
     Mistake("debug -", 2, ("IN is standard input", "press debug page.pcl < lines.txt")),
-    Mistake("trace", 2, ("IN is missing", "press trace [--default NAME=VALUE].. IN")),
+    Mistake("trace", 2, ("IN is missing", "press trace [--runs] [--default NAME=VALUE].. IN")),
     Mistake("trace a b", 2, ("b is one too many",)),
     Mistake("trace none.pcl", 304, ("none.pcl is not there", "Look at the name")),
     Mistake("trace in.pcl", 0, ("in.pcl is empty, and its trace is the universal exit",), {"in.pcl": b""}),
