@@ -34,7 +34,10 @@ fn changed(
     let after = marked(alloc, orientation)?;
     let mut page = after.white(alloc)?;
     let region = page.catch_up(alloc, &after)?;
-    assert!(rt; page.catch_up_between(alloc, &after, 0, 30)?.is_none());
+    assert!(rt;
+        page.catch_up_between(alloc, &after, orientation, 0, 30)?
+            .is_none()
+    );
     Ok(region)
 }
 
