@@ -49,8 +49,8 @@ def name_of_head(head):
     return (rest[place + 1:] if rest[:1] == "<" else rest).strip()
 
 
-def clauses_of(text):
-    """The clauses of the public functions of a file, and of those that a trait has or that stand for one: each with its function."""
+def placed_clauses_of(text):
+    """The clauses of the public functions of a file, and of those that a trait has or that stand for one: each with its function, and where that stands."""
     heads = [(found.start(), found[0]) for found in HEAD.finditer(text)]
     for found in FUNCTION.finditer(text):
         head = next((head for place, head in reversed(heads) if place < found.start()), "") if found[1] else ""
@@ -62,7 +62,13 @@ def clauses_of(text):
         stop = min(each for each in (end, text.find("\n\n", place), len(text)) if each >= 0)
         while (clause := CLAUSE.search(text, place, stop)) is not None:
             place = balanced(text, clause.end() - 1)
-            yield f"{where}::{found[3]}" if where else found[3], " ".join(text[clause.start():place].split())
+            yield f"{where}::{found[3]}" if where else found[3], " ".join(text[clause.start():place].split()), found.start()
+
+
+def clauses_of(text):
+    """These clauses, each with its function."""
+    for name, said, _ in placed_clauses_of(text):
+        yield name, said
 
 
 def clauses(root):
