@@ -1,5 +1,8 @@
 -- The lemmas on the lines of a trace, and on pages that are rebuilt from them.
-pub mod FloatLemmas
+pub mod ArrayLemmas
+pub mod SlotLemmas
+pub mod TextLemmas
+pub mod MemberLemmas
 pub mod SpelledLemmas
 pub mod SeenLemmas
 pub mod SentLemmas

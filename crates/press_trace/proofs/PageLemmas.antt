@@ -1,24 +1,14 @@
 -- What is told of the open page.
-use Rattle.std.proofs.Common.{◌≡◌, ◌∙◌, ◌+◌, ◌-◌, ◌*◌, ◌≤◌, ◌<◌, ℕ, Bool, zero, suc, List, [], ◌∷◌, ◌++◌, map, take, drop, get_or, Option, None, Some, inr, sym, ap, arith}
-use Rattle.std.proofs.lemmas.List.{map-append}
+use Rattle.std.proofs.Common.{◌≡◌, ◌∙◌, ◌+◌, ◌-◌, ◌*◌, ◌≤◌, ℕ, Bool, zero, suc, List, [], ◌∷◌, ◌++◌, map, take, drop, Option, None, Some, inr, refl, sym, ap, arith}
 use Rattle.std.proofs.lemmas.List.FromFn.{map-range_with_len_more, take-map-range_with_len}
 use Rattle.std.specs.List.{range_with_len}
-use Rattle.serde_json.specs.Data.{Data, string}
-use Rattle.serde_json.specs.View.{view}
-use Rattle.serde_json.specs.declared.value.Value.{Value}
-use Rattle.hex.specs.Hex.{encode_upper}
-use Rattle.press_bits.specs.Lines.{IsPageLine, bytes_per_line}
-use Rattle.press_bits.specs.Page.{Page, HasNoDotOutside, black_at, blank}
+use Rattle.serde_json.specs.Data.{Data}
+use Rattle.press_bits.specs.Lines.{bytes_per_line}
+use Rattle.press_bits.specs.Page.{Page, black_at, blank}
 use Rattle.press_bits.specs.declared.region.Region.{Region}
 use Rattle.press_pbm.specs.Spelling.{byte_of_dots, line_bytes}
-use Rattle.press_pbm.proofs.LineLemmas.{IsPageLine-line_bytes, bit}
-use Rattle.press_trace.specs.Pages.{row_in, row_data, size_data, StartsFrom, Follows, IsPageTold}
-
-pub row_is : (page : Page) (region : Region) (y : ℕ) (line : List ℕ) (told : Data) → HasNoDotOutside page
-    → ((i : ℕ) → get_or line i 0 < 256) → IsPageLine page y line → told ≡ string (encode_upper (row_in region line))
-    → told ≡ row_data page region y
-row_is page region y line told none small is here =
-    here ∙ ap (λ (bytes : List ℕ). string (encode_upper (row_in region bytes))) (IsPageLine-line_bytes page y line none small is)
+use Rattle.press_pbm.proofs.LineLemmas.{bit}
+use Rattle.press_trace.specs.Pages.{row_in, size_data, StartsFrom, Follows, IsPageTold}
 
 -- a list of numbers without its first ones
 drop_range : {X : Type 0} (f : ℕ → X) (a n l : ℕ) → drop l (map f (range_with_len a n)) ≡ map f (range_with_len (a + l) (n - l))
@@ -80,27 +70,10 @@ byte_is dots a b c d e f g h p q r s t u v w =
     (λ i. 128 * p i + 64 * q i + 32 * r i + 16 * s i + 8 * t i + 4 * u i + 2 * v i + w i)
     ∙ eight (bit (dots 0)) (bit (dots 1)) (bit (dots 2)) (bit (dots 3)) (bit (dots 4)) (bit (dots 5)) (bit (dots 6)) (bit (dots 7))
 
-pub row_gathered_is : (page : Page) (region : Region) (y : ℕ) (row : List ℕ) (told : Data) → told ≡ string (encode_upper row) → row ≡ row_in region (line_bytes page y)
-    → told ≡ row_data page region y
-row_gathered_is page region y row told here is = here ∙ ap (λ (bytes : List ℕ). string (encode_upper bytes)) is
-
-pub rows_more : (page : Page) (region : Region) (y : ℕ) (rows all : List Value) (value : Value) → region.top ≤ y
-    → map view rows ≡ map (row_data page region) (range_with_len region.top (y - region.top)) → view value ≡ row_data page region y
-    → all ≡ rows ++ value ∷ [] → map view all ≡ map (row_data page region) (range_with_len region.top (y + 1 - region.top))
-rows_more page region y rows all value behind so_far is more =
-    let here : region.top + (y - region.top) ≡ y = omega (arith, behind) in
-    let count : y - region.top + 1 ≡ y + 1 - region.top = omega (arith, behind) in
-    ap (map view) more
-    ∙ map-append view rows (value ∷ [])
-    ∙ (λ i. so_far i ++ is i ∷ [])
-    ∙ sym (map-range_with_len_more (row_data page region) region.top (y - region.top) y here)
-    ∙ ap (λ n. map (row_data page region) (range_with_len region.top n)) count
-
-pub starts_white : (before : Option Page) (after page : Page) (opened : Data) → page ≡ blank after.width after.height → opened ≡ size_data after
-    → StartsFrom before after page (Some opened)
+pub starts_white : (before : Option Page) (after page : Page) → page ≡ blank after.width after.height → StartsFrom before after page (Some (size_data after))
 unfolding blank
-starts_white before after page opened white is =
-    (sym (ap (λ (one : Page). one.width) white), sym (ap (λ (one : Page). one.height) white), inr (white, ap (λ (told : Data). Some told) is))
+starts_white before after page white =
+    (sym (ap (λ (one : Page). one.width) white), sym (ap (λ (one : Page). one.height) white), inr (white, refl))
 
 pub told_open : (before : Option Page) (after from : Page) (opened told : Option Data) → StartsFrom before after from opened → Follows from after told → IsPageTold before (Some after) opened told
 told_open None after from opened told starts follows = (from, starts, follows)

@@ -5,12 +5,14 @@ pub mod Faults
 pub mod Fields
 pub mod Seen
 pub mod Texts
+pub mod Unescaped
+pub mod Slots
 pub mod Spelled
 pub mod Sent
 pub mod Pages
-pub mod Plain
 pub mod Places
 pub mod Lines
+pub mod LineSlots
 pub mod Runs
 pub mod Tracing
 pub mod Traced

@@ -1,14 +1,16 @@
 -- What is told of the open page.
-use Rattle.std.specs.Prelude.{◌≡◌, ◌⊎◌, ◌-◌, ◌*◌, ℕ, List, map, min, take, drop, Option, None, Some, codes, ⊤}
+use Rattle.std.specs.Prelude.{◌≡◌, ◌⊎◌, ◌-◌, ◌*◌, ℕ, List, [], ◌∷◌, map, min, take, drop, Option, None, Some, Bool, true, false, codes, ⊤}
 use Rattle.std.specs.List.{range_with_len}
 use Rattle.hex.specs.Hex.{encode_upper}
 use Rattle.serde_json.specs.Data.{Data, null, number, unsigned, string, array, object, item, no_items, no_members, put}
 use Rattle.serde_json.specs.View.{items_of}
 use Rattle.press_bits.specs.Page.{Page, HasNoDotOutside, blank}
-use Rattle.press_bits.specs.Patches.{ChangedIn}
+use Rattle.press_bits.specs.Patches.{ChangedIn, LiesOn}
 use Rattle.press_bits.specs.declared.region.Region.{Region}
 use Rattle.press_canvas.specs.Changes.{AgreeBesideLines}
 use Rattle.press_pbm.specs.Spelling.{line_bytes}
+use Rattle.press_trace.specs.declared.page.Change.{Change}
+use Rattle.press_trace.specs.declared.page.Change.TheVariants as changes
 use Rattle.press_trace.specs.declared.touched.Touched.{Touched}
 use Rattle.press_trace.specs.declared.touched.Touched.TheVariants.{Nothing, Lines, Whole}
 
@@ -31,9 +33,33 @@ patch_data page region = object (
     (put (codes "rows") (array (items_of (rows_of page region)))
     (put (codes "height") (number (unsigned (region.bottom - region.top))) no_members)))))
 
+-- its members in the order of their keys
+abbrev pub patch_slots : Page → Region → List (List ℕ × Option Data)
+patch_slots page region =
+    (codes "height", Some (number (unsigned (region.bottom - region.top)))) ∷ (codes "rows", Some (array (items_of (rows_of page region))))
+    ∷ (codes "width", Some (number (unsigned (min (8 * region.right) page.width - 8 * region.left)))) ∷ (codes "x", Some (number (unsigned (8 * region.left))))
+    ∷ (codes "y", Some (number (unsigned region.top))) ∷ []
+
 -- the size of a page
 abbrev pub size_data : Page → Data
 size_data page = array (item (number (unsigned page.width)) (item (number (unsigned page.height)) no_items))
+
+-- what is told of a page that opened, and of what changed of it
+abbrev pub opened_data : (opened : Bool) → Option Page → Option Data
+opened_data false page = None
+opened_data true None = None
+opened_data true (Some page) = Some (size_data page)
+
+abbrev pub change_data : Change → Option Page → Option Data
+change_data changes.Nothing page = None
+change_data changes.Closed page = Some null
+change_data (changes.Patch region) None = None
+change_data (changes.Patch region) (Some page) = Some (patch_data page region)
+
+-- the region that is told lies on the page
+abbrev pub LiesIn : Change → Option Page → Type 0
+LiesIn (changes.Patch region) (Some page) = LiesOn page region
+LiesIn change page = ⊤
 
 -- What changed from a page to a later one of its size: nothing, where they are equal; else a region outside of which they agree, and
 -- no dot of the later one lies beyond its sides.

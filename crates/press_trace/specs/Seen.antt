@@ -1,5 +1,6 @@
 -- What is told of what can be seen: the fields that tell something else than before.
 use Rattle.std.specs.Prelude.{◌≡◌, Bool, true, not, List, ℕ, [], ◌∷◌, Option, Some, None, if◌then◌else◌}
+use Rattle.std.specs.List.{list_any}
 use Rattle.serde_json.specs.Data.{Data, object, Members, no_members, member, put}
 use Rattle.press_engine.specs.declared.view.View.{View}
 use Rattle.press_trace.specs.declared.fields.Field.{Field}
@@ -23,6 +24,10 @@ IsAlikeIf seen view = ⊥
 abbrev pub is_told : Option View → View → Field → Bool
 is_told None now field = true
 is_told (Some before) now field = not (is_same (told_by field before) (told_by field now))
+
+-- whether some field of a group is told
+abbrev pub tells_some : Option View → View → Group → Bool
+tells_some before now group = list_any (is_told before now) (fields_of group)
 
 -- The fields that are told, put to these members.
 abbrev pub told_fields : Option View → View → List Field → Members → Members
@@ -50,3 +55,13 @@ told_groups before now (group ∷ groups) members =
 -- What is told of what can be seen now, where it was so before.
 abbrev pub view_told : Option View → View → Members
 view_told before now = told_groups before now all_groups no_members
+
+-- a field as a member that is there or not, and so a group
+abbrev pub field_slot : Option View → View → Field → List ℕ × Option Data
+field_slot before now field = (key_of field, if is_told before now field then Some (data_of (told_by field now)) else None)
+
+abbrev pub group_told : Option View → View → Group → Option Data
+group_told before now group = object_if (told_fields before now (fields_of group) no_members)
+
+abbrev pub group_slot : Option View → View → Group → List ℕ × Option Data
+group_slot before now group = (group_word group, group_told before now group)

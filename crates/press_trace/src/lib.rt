@@ -2,11 +2,13 @@
 //! and what went out in it.
 #![tactic(auto)]
 
+mod appending;
 mod fault;
 mod fields;
 pub mod laws;
 mod line;
 mod line_of;
+mod members;
 mod page;
 mod place;
 mod rows;

@@ -1,114 +1,162 @@
 //! The line of a table step.
 
-ghost use Rattle.std.specs.Prelude.{◌≡◌, Option, false, IfOk, OnOk, option_map};
-ghost use Rattle.serde_json.specs.Data.{no_members};
-ghost use Rattle.serde_json.specs.View.{view, members_view};
-ghost use Rattle.serde_json.specs.Written.{members_have_float};
-ghost use Rattle.press_trace.specs.Plain.{IsPlain};
+ghost use Rattle.std.specs.Prelude.{◌≡◌, ◌++◌, Option, IfOk, OnOk, option_map, codes, true};
 ghost use Rattle.press_engine.specs.declared.view.View.{View};
+ghost use Rattle.press_trace.specs.LineSlots.{begin_slots, page_slots, went_slots, cursor_slots, end_slots};
+ghost use Rattle.press_trace.specs.Lines.{last_told, recorded_told, delivered_told, reply_told, steps_told, run_members, line_text};
+ghost use Rattle.press_trace.specs.Pages.{opened_data, change_data, LiesIn};
 ghost use Rattle.press_trace.specs.Seen.{IsAlikeIf};
-ghost use Rattle.press_trace.specs.Lines.{last_told, recorded_told, delivered_told, reply_told, view_object, where_members, steps_told, run_members, line_text};
+ghost use Rattle.press_trace.specs.Slots.{member_text, texts_behind};
 
-use crate::page::PageTold;
+use crate::appending::{append_flag, append_key, append_text};
+use crate::members::{append_integer_member, append_number_member};
+use crate::page::{PageTold, append_change, append_opened};
 use crate::place::Place;
-use crate::seen::{Seen, object_of, put_some, told_view};
+use crate::seen::{Seen, append_view};
 use crate::sent::WentOut;
 use crate::spelled::spelled;
-use crate::text::{kind_value, text_value};
+use crate::text::append_kind;
+use press_canvas::Canvas;
 use press_cmd::LINE_FEED;
 use press_engine::{Last, View};
-use serde_json::{Map, Value, put};
+use press_units::Pos;
 use std::alloc::{AllocError, Global};
 
-/// The members of a line.
-type Members = Map<String, Value>;
-
-/// The kind of the command that a step took.
-fn last_value(alloc: Global, last: Last) -> Result<Option<Value>, AllocError>
-    ensures { IfOk result (λ value. option_map view value ≡ last_told last) }
-{
-    match last {
-        Last::Ran(kind) | Last::Recorded(kind) => Ok(Some(kind_value(alloc, kind)?)),
-        Last::Nothing => Ok(None),
-    }
-}
-
-/// Whether it was recorded.
-fn recorded_value(last: Last) -> Option<Value>
-    ensures { option_map view result ≡ recorded_told last }
-{
-    match last {
-        Last::Recorded(_) => Some(Value::Bool(true)),
-        _ => None,
-    }
-}
-
-/// How many sheets went out, if any did.
-fn delivered_value(sheets: u64) -> Option<Value>
-    ensures { option_map view result ≡ delivered_told sheets }
+/// Appends how many sheets went out, if any did.
+fn append_delivered(alloc: Global, sheets: u64, text: &mut Vec<u8>) -> Result<(), AllocError>
+    ensures { OnOk result (text.new.items
+        ≡ text.old.items ++ member_text true (codes "delivered") (delivered_told sheets)) }
 {
     if sheets == 0 {
-        return None;
+        return Ok(());
     }
-    Some(Value::from(sheets))
+    append_number_member(alloc, true, "delivered", sheets, text)
 }
 
-/// The bytes of the replies that went out, if there are any.
-fn reply_value(alloc: Global, replies: &[u8]) -> Result<Option<Value>, AllocError>
-    ensures { IfOk result (λ value. option_map view value ≡ reply_told replies.now) }
+/// Appends the kind of the command that a step took.
+fn append_last(alloc: Global, last: Last, text: &mut Vec<u8>) -> Result<(), AllocError>
+    ensures { OnOk result (text.new.items
+        ≡ text.old.items ++ member_text true (codes "last") (last_told last)) }
+{
+    match last {
+        Last::Ran(kind) | Last::Recorded(kind) => {
+            append_key(alloc, true, "last", text)?;
+            append_kind(alloc, kind, text)
+        }
+        Last::Nothing => Ok(()),
+    }
+}
+
+/// Appends whether it was recorded.
+fn append_recorded(alloc: Global, last: Last, text: &mut Vec<u8>) -> Result<(), AllocError>
+    ensures { OnOk result (text.new.items
+        ≡ text.old.items ++ member_text true (codes "recorded") (recorded_told last)) }
+{
+    match last {
+        Last::Recorded(_) => {
+            append_key(alloc, true, "recorded", text)?;
+            append_flag(true, text)
+        }
+        _ => Ok(()),
+    }
+}
+
+/// Appends the bytes of the replies that went out, if there are any.
+fn append_reply(alloc: Global, replies: &[u8], text: &mut Vec<u8>) -> Result<(), AllocError>
+    ensures { OnOk result (text.new.items
+        ≡ text.old.items ++ member_text true (codes "reply") (reply_told replies.now)) }
 {
     if replies.is_empty() {
-        return Ok(None);
+        return Ok(());
     }
-    Ok(Some(text_value(alloc, replies)?))
+    append_key(alloc, true, "reply", text)?;
+    append_text(alloc, replies, text)
 }
 
-/// How many steps a line tells, where they are more than one.
-fn steps_value(steps: usize) -> Option<Value>
-    ensures { option_map view result ≡ steps_told steps }
+/// Appends how many steps a line tells, where they are more than one.
+fn append_steps(alloc: Global, steps: usize, text: &mut Vec<u8>) -> Result<(), AllocError>
+    ensures { OnOk result (text.new.items
+        ≡ text.old.items ++ member_text true (codes "steps") (steps_told steps)) }
 {
     if steps == 1 {
-        return None;
+        return Ok(());
     }
-    Some(Value::from(steps))
+    append_number_member(alloc, true, "steps", steps as u64, text)
 }
 
-/// The fields that changed, if any did.
-fn view_value(
+/// Appends the members behind the first one: how many bytes the command has, how many sheets went out, how many bodies run, and its kind.
+fn append_begin(
     alloc: Global,
+    place: Place,
+    sheets: u64,
+    now: &View<'_>,
+    text: &mut Vec<u8>,
+) -> Result<(), AllocError>
+    ensures { OnOk result (text.new.items
+        ≡ text.old.items ++ texts_behind (begin_slots place sheets now.now)) }
+{
+    append_number_member(alloc, true, "bytes", place.bytes as u64, text)?;
+    append_delivered(alloc, sheets, text)?;
+    append_number_member(alloc, true, "depth", u64::from(now.depth), text)?;
+    append_last(alloc, now.last, text)?;
+    Ok(())
+}
+
+/// Appends what is told of the open page, which is this one.
+fn append_page(
+    alloc: Global,
+    told: PageTold,
+    page: Option<&Canvas>,
+    text: &mut Vec<u8>,
+) -> Result<(), AllocError>
+    requires { LiesIn told.change (option_map (λ page. page.now) page) }
+    ensures { OnOk result (text.new.items ≡ text.old.items ++ texts_behind (page_slots
+        (opened_data told.opened (option_map (λ page. page.now) page.entry))
+        (change_data told.change (option_map (λ page. page.now) page.entry)))) }
+{
+    append_opened(alloc, told.opened, page, text)?;
+    append_change(alloc, told.change, page, text)
+}
+
+/// Appends whether the command was recorded, what went out, and how many sheets did so far.
+fn append_went(
+    alloc: Global,
+    replies: &[u8],
+    now: &View<'_>,
+    text: &mut Vec<u8>,
+) -> Result<(), AllocError>
+    ensures { OnOk result (text.new.items
+        ≡ text.old.items ++ texts_behind (went_slots replies.now now.now)) }
+{
+    append_recorded(alloc, now.last, text)?;
+    append_reply(alloc, replies, text)?;
+    append_number_member(alloc, true, "sheets", now.sheets, text)
+}
+
+/// Appends the cursor.
+fn append_cursor(alloc: Global, x: Pos, y: Pos, text: &mut Vec<u8>) -> Result<(), AllocError>
+    ensures { OnOk result (text.new.items ≡ text.old.items ++ texts_behind (cursor_slots x y)) }
+{
+    append_integer_member(alloc, true, "x", x.0, text)?;
+    append_integer_member(alloc, true, "y", y.0, text)
+}
+
+/// Appends the last members: how many steps were taken, how many the line tells, what changed of what can be seen, and the cursor.
+fn append_end(
+    alloc: Global,
+    steps: usize,
     before: Option<&View<'_>>,
     now: &View<'_>,
-) -> Result<Option<Value>, AllocError>
-    ensures { IfOk result (λ value. option_map view value
-        ≡ view_object (option_map (λ view. view.now) before.entry) now.now) }
+    text: &mut Vec<u8>,
+) -> Result<(), AllocError>
+    ensures { OnOk result (text.new.items ≡ text.old.items ++ texts_behind
+        (end_slots steps (option_map (λ view. view.now) before.entry) now.now)) }
 {
-    Ok(object_of(told_view(alloc, before, now)?))
-}
-
-/// The members that say where a step stands.
-fn where_members(alloc: Global, place: Place, now: &View<'_>) -> Result<Members, AllocError>
-    ensures { IfOk result (λ members.
-        members_view members.entries ≡ where_members place now.now no_members) }
-{
-    let mut members = Map::new(alloc);
-    put(&mut members, alloc, "at", Value::from(place.at))?;
-    put(&mut members, alloc, "bytes", Value::from(place.bytes))?;
-    put(&mut members, alloc, "depth", Value::from(now.depth))?;
-    put(&mut members, alloc, "sheets", Value::from(now.sheets))?;
-    put(&mut members, alloc, "step", Value::from(now.step))?;
-    put(&mut members, alloc, "x", Value::from(now.x.0))?;
-    put(&mut members, alloc, "y", Value::from(now.y.0))?;
-    Ok(members)
-}
-
-/// The line of members.
-fn ended_line(alloc: Global, members: Members) -> Result<Vec<u8>, AllocError>
-    requires { members_have_float (members_view members.entries) ≡ false }
-    ensures { IfOk result (λ line. line.items ≡ line_text (members_view members.entries)) }
-{
-    let mut line = spelled(alloc, Value::Object(members).to_vec(alloc)?)?;
-    line.push(LINE_FEED)?;
-    Ok(line)
+    append_number_member(alloc, true, "step", now.step, text)?;
+    append_steps(alloc, steps, text)?;
+    append_view(alloc, before, now, text)?;
+    append_cursor(alloc, now.x, now.y, text)?;
+    Ok(())
 }
 
 /// The line of a step, which tells so many.
@@ -119,33 +167,26 @@ fn step_line(
     went: &WentOut,
     before: Option<&View<'_>>,
     now: &View<'_>,
-    page: PageTold,
+    told: PageTold,
+    page: Option<&Canvas>,
 ) -> Result<Vec<u8>, AllocError>
-    requires { IsPlain page }
+    requires { LiesIn told.change (option_map (λ page. page.now) page) }
     ensures { IfOk result (λ line. line.items ≡ line_text (run_members steps place
         went.now.sheets went.now.replies.items (option_map (λ view. view.now) before.entry) now.now
-        (option_map view page.opened) (option_map view page.page))) }
+        (opened_data told.opened (option_map (λ page. page.now) page.entry))
+        (change_data told.change (option_map (λ page. page.now) page.entry)))) }
 {
-    let mut members = where_members(alloc, place, now)?;
-    put_some(
-        &mut members,
-        alloc,
-        "delivered",
-        delivered_value(went.sheets),
-    )?;
-    put_some(&mut members, alloc, "last", last_value(alloc, now.last)?)?;
-    put_some(&mut members, alloc, "opened", page.opened)?;
-    put_some(&mut members, alloc, "page", page.page)?;
-    put_some(&mut members, alloc, "recorded", recorded_value(now.last))?;
-    put_some(
-        &mut members,
-        alloc,
-        "reply",
-        reply_value(alloc, &went.replies)?,
-    )?;
-    put_some(&mut members, alloc, "view", view_value(alloc, before, now)?)?;
-    put_some(&mut members, alloc, "steps", steps_value(steps))?;
-    ended_line(alloc, members)
+    let mut text = Vec::new(alloc);
+    text.push(b'{')?;
+    append_number_member(alloc, false, "at", place.at as u64, &mut text)?;
+    append_begin(alloc, place, went.sheets, now, &mut text)?;
+    append_page(alloc, told, page, &mut text)?;
+    append_went(alloc, &went.replies, now, &mut text)?;
+    append_end(alloc, steps, before, now, &mut text)?;
+    text.push(b'}')?;
+    let mut line = spelled(alloc, text)?;
+    line.push(LINE_FEED)?;
+    Ok(line)
 }
 
 /// The line of a step, which tells so many, by what was kept of the step before.
@@ -156,15 +197,20 @@ pub(crate) fn seen_line(
     went: &WentOut,
     before: &Option<Seen>,
     now: &View<'_>,
-    page: PageTold,
+    told: PageTold,
+    page: Option<&Canvas>,
 ) -> Result<Vec<u8>, AllocError>
-    requires { IsPlain page }
+    requires { LiesIn told.change (option_map (λ page. page.now) page) }
     ensures { IfOk result (λ line. (seen : Option View) × IsAlikeIf before.now seen
         × (line.items ≡ line_text (run_members steps place went.now.sheets went.now.replies.items
-        seen now.now (option_map view page.opened) (option_map view page.page)))) }
+        seen now.now (opened_data told.opened (option_map (λ page. page.now) page.entry))
+        (change_data told.change (option_map (λ page. page.now) page.entry))))) }
 {
     match before {
-        Some(before) => { step_line(alloc, steps, place, went, Some(&before.view()), now, page) },
-        None => step_line(alloc, steps, place, went, None, now, page),
+        Some(before) => {
+            let view = before.view();
+            step_line(alloc, steps, place, went, Some(&view), now, told, page)
+        }
+        None => step_line(alloc, steps, place, went, None, now, told, page),
     }
 }

@@ -1,96 +1,170 @@
 //! What changed of the open page.
 
-ghost use Rattle.std.specs.Prelude.{◌≡◌, ◌+◌, ◌*◌, ◌<◌, ◌≤◌, ℕ, length, slice_index, IfOk, None, Some, option_map, map, MatchOption, OnOk};
-ghost use Rattle.serde_json.specs.Data.{null};
-ghost use Rattle.serde_json.specs.View.{view};
-ghost use Rattle.press_bits.specs.Page.{HasNoDotOutside};
+ghost use Rattle.std.specs.Prelude.{◌≡◌, ◌++◌, IfOk, None, Some, option_map, MatchOption, OnOk, codes, true, false};
+ghost use Rattle.serde_json.specs.Data.{array};
+ghost use Rattle.serde_json.specs.View.{items_of};
+ghost use Rattle.serde_json.specs.Written.{compact_text};
 ghost use Rattle.press_bits.specs.Patches.{ChangedIn, LiesOn};
 ghost use Rattle.press_canvas.specs.Turned.{extent};
-ghost use Rattle.press_trace.specs.Plain.{HasNoFloat, IsPlain};
-ghost use Rattle.press_trace.specs.Pages.{patch_data, size_data, Follows, KeepsRest, StartsFrom, IsPageTold};
+ghost use Rattle.press_trace.specs.Pages.{rows_of, patch_data, patch_slots, size_data, opened_data, change_data, LiesIn, Follows, KeepsRest, StartsFrom, IsPageTold};
+ghost use Rattle.press_trace.specs.Slots.{member_text, texts_of};
 
-use crate::rows::rows_value;
+use crate::appending::{append_key, append_number};
+use crate::members::append_number_member;
+use crate::rows::append_rows;
 use crate::touched::Touched;
 use press_bits::Region;
 use press_canvas::Canvas;
 use press_page::Extent;
-use serde_json::{Map, Value, put};
 use std::alloc::{AllocError, Global};
 
-/// What is told of the open page: that it is a new one, and what changed on it.
-#[derive(Drop)]
+/// What changed of the open page.
+#[derive(Clone, Copy)]
+pub(crate) enum Change {
+    /// Nothing.
+    Nothing,
+    /// It closed.
+    Closed,
+    /// This region of it.
+    Patch(Region),
+}
+
+/// What is told of the open page: whether it is a new one, and what changed on it.
+#[derive(Clone, Copy)]
 pub(crate) struct PageTold {
-    pub(crate) opened: Option<Value>,
-    pub(crate) page: Option<Value>,
+    pub(crate) opened: bool,
+    pub(crate) change: Change,
 }
 
-impl PageTold {
-    ghost use Rattle.std.specs.Prelude.{◌≡◌, None};
-    ghost use Rattle.press_trace.specs.Plain.{IsPlain};
+/// That it is as it was.
+pub(crate) const AS_IT_WAS: PageTold = PageTold {
+    opened: false,
+    change: Change::Nothing,
+};
 
-    /// That it is as it was.
-    pub(crate) fn nothing() -> Self
-        ensures opened { result.opened ≡ None }
-        ensures page { result.page ≡ None }
-        ensures plain { IsPlain result }
-    {
-        PageTold {
-            opened: None,
-            page: None,
-        }
-    }
-}
-
-/// A region of a page, with its rows.
-fn patch_value(alloc: Global, page: &Canvas, region: Region) -> Result<Value, AllocError>
+/// Appends the rows of a region of a page as a member.
+fn append_rows_member(
+    alloc: Global,
+    page: &Canvas,
+    region: Region,
+    text: &mut Vec<u8>,
+) -> Result<(), AllocError>
     requires { LiesOn page.now region }
-    ensures value { IfOk result (λ value. view value ≡ patch_data page.now region) }
-    ensures inside { HasNoDotOutside page.now }
+    ensures { OnOk result (text.new.items ≡ text.old.items
+        ++ member_text true (codes "rows") (Some (array (items_of (rows_of page.now region))))) }
 {
-    let mut members = Map::new(alloc);
+    append_key(alloc, true, "rows", text)?;
+    append_rows(alloc, page, region, text)
+}
+
+/// Appends the members of a region of a page.
+fn append_region(
+    alloc: Global,
+    page: &Canvas,
+    region: Region,
+    text: &mut Vec<u8>,
+) -> Result<(), AllocError>
+    requires { LiesOn page.now region }
+    ensures { OnOk result (text.new.items
+        ≡ text.old.items ++ texts_of false (patch_slots page.now region)) }
+{
     let width = page.extent().width as usize;
     let left = 8 * region.left;
     let right = (8 * region.right).min(width);
-    let rows = Value::Array(rows_value(alloc, page, region)?);
-    put(
-        &mut members,
-        alloc,
-        "height",
-        Value::from(region.bottom - region.top),
-    )?;
-    put(&mut members, alloc, "rows", rows)?;
-    put(&mut members, alloc, "width", Value::from(right - left))?;
-    put(&mut members, alloc, "x", Value::from(left))?;
-    put(&mut members, alloc, "y", Value::from(region.top))?;
-    Ok(Value::Object(members))
+    let lines = region.bottom - region.top;
+    append_number_member(alloc, false, "height", u64::from(lines), text)?;
+    append_rows_member(alloc, page, region, text)?;
+    append_number_member(alloc, true, "width", (right - left) as u64, text)?;
+    append_number_member(alloc, true, "x", left as u64, text)?;
+    append_number_member(alloc, true, "y", u64::from(region.top), text)?;
+    Ok(())
 }
 
-/// The size of a page.
-fn size_value(alloc: Global, page: &Canvas) -> Result<Value, AllocError>
-    ensures { IfOk result (λ value. view value ≡ size_data page.now) }
+/// Appends a region of a page, with its rows.
+fn append_patch(
+    alloc: Global,
+    page: &Canvas,
+    region: Region,
+    text: &mut Vec<u8>,
+) -> Result<(), AllocError>
+    requires { LiesOn page.now region }
+    ensures { OnOk result (text.new.items
+        ≡ text.old.items ++ compact_text (patch_data page.now region)) }
+{
+    text.push(b'{')?;
+    append_region(alloc, page, region, text)?;
+    text.push(b'}')?;
+    Ok(())
+}
+
+/// Appends the size of a page.
+fn append_size(page: &Canvas, text: &mut Vec<u8>) -> Result<(), AllocError>
+    ensures { OnOk result (text.new.items ≡ text.old.items ++ compact_text (size_data page.now)) }
 {
     let Extent { width, height } = page.extent();
-    let mut sides = Vec::new(alloc);
-    sides.push(Value::from(width))?;
-    sides.push(Value::from(height))?;
-    Ok(Value::Array(sides))
+    text.push(b'[')?;
+    append_number(u64::from(width), text)?;
+    text.push(b',')?;
+    append_number(u64::from(height), text)?;
+    text.push(b']')?;
+    Ok(())
 }
 
-/// The page on which a change is told: the one before, where it has the size of the one after, and else a new one, of which the
-/// size is told.
-#[tactic(auto, using(crate::proofs::FloatLemmas::plain_size))]
+/// Appends the size of a page that opened, behind another member.
+pub(crate) fn append_opened(
+    alloc: Global,
+    opened: bool,
+    now: Option<&Canvas>,
+    text: &mut Vec<u8>,
+) -> Result<(), AllocError>
+    ensures { OnOk result (text.new.items ≡ text.old.items ++ member_text true (codes "opened")
+        (opened_data opened (option_map (λ page. page.now) now.entry))) }
+{
+    match now {
+        Some(page) if opened => {
+            append_key(alloc, true, "opened", text)?;
+            append_size(page, text)
+        }
+        _ => Ok(()),
+    }
+}
+
+/// Appends what changed of the open page, behind another member.
+pub(crate) fn append_change(
+    alloc: Global,
+    change: Change,
+    now: Option<&Canvas>,
+    text: &mut Vec<u8>,
+) -> Result<(), AllocError>
+    requires { LiesIn change (option_map (λ page. page.now) now) }
+    ensures { OnOk result (text.new.items ≡ text.old.items ++ member_text true (codes "page")
+        (change_data change (option_map (λ page. page.now) now.entry))) }
+{
+    match (change, now) {
+        (Change::Closed, _) => {
+            append_key(alloc, true, "page", text)?;
+            text.extend_from_slice(b"null")
+        }
+        (Change::Patch(region), Some(page)) => {
+            append_key(alloc, true, "page", text)?;
+            append_patch(alloc, page, region, text)
+        }
+        _ => Ok(()),
+    }
+}
+
+/// The page on which a change is told, and whether it is a new one: the one before, where it has the size of the one after, and else a white one.
 fn start(
     alloc: Global,
     before: Option<Canvas>,
     after: &Canvas,
-) -> Result<(Canvas, Option<Value>), AllocError>
-    ensures starts { IfOk result (λ started.
-        StartsFrom before after.now started.0 (option_map view started.1)) }
-    ensures plain { IfOk result (λ started. HasNoFloat (option_map view started.1)) }
+) -> Result<(Canvas, bool), AllocError>
+    ensures { IfOk result (λ started.
+        StartsFrom before after.now started.0 (opened_data started.1 (Some after.now))) }
 {
     match before {
-        Some(page) if page.extent() == after.extent() => Ok((page, None)),
-        _ => Ok((after.white(alloc)?, Some(size_value(alloc, after)?))),
+        Some(page) if page.extent() == after.extent() => Ok((page, false)),
+        _ => Ok((after.white(alloc)?, true)),
     }
 }
 
@@ -118,38 +192,37 @@ fn catch_up(
     }
 }
 
-/// Follows a page to a later one of its size, of which a step touched this. The answer is the region that changed with its rows, if
-/// anything did.
-#[tactic(auto, using(crate::proofs::FloatLemmas::plain_patch))]
+/// Follows a page to a later one of its size, of which a step touched this. The answer is what changed.
 fn follow(
     alloc: Global,
     page: &mut Canvas,
     after: &Canvas,
     touched: Touched,
-) -> Result<Option<Value>, AllocError>
+) -> Result<Change, AllocError>
     requires extent { extent after.now ≡ extent page.old }
     requires keeps { KeepsRest touched (Some page.old) (Some after.now) }
-    ensures told { IfOk result (λ patch. Follows page.old after.now (option_map view patch)) }
-    ensures page { IfOk result (λ _. page.new ≡ after.now) }
-    ensures plain { IfOk result (λ patch. HasNoFloat (option_map view patch)) }
+    ensures told { IfOk result (λ change.
+        Follows page.old after.now (change_data change (Some after.now))) }
+    ensures lies { IfOk result (λ change. LiesIn change (Some after.now)) }
+    ensures page { OnOk result (page.new ≡ after.now) }
 {
+    let _extent = after.extent();
     match catch_up(alloc, page, after, touched)? {
-        Some(region) => Ok(Some(patch_value(alloc, after, region)?)),
-        None => Ok(None),
+        Some(region) => Ok(Change::Patch(region)),
+        None => Ok(Change::Nothing),
     }
 }
 
 /// What is told where no page is open.
 fn closed(before: Option<Canvas>) -> PageTold
-    ensures plain { IsPlain result }
-    ensures told { IsPageTold before None
-        (option_map view result.opened) (option_map view result.page) }
+    ensures { IsPageTold before None
+        (opened_data result.opened None) (change_data result.change None) }
 {
     PageTold {
-        opened: None,
-        page: match before {
-            Some(_) => Some(Value::Null),
-            None => None,
+        opened: false,
+        change: match before {
+            Some(_) => Change::Closed,
+            None => Change::Nothing,
         },
     }
 }
@@ -163,24 +236,15 @@ fn told_open(
 ) -> Result<(Option<Canvas>, PageTold), AllocError>
     requires { KeepsRest touched before (Some after.now) }
     ensures told { IfOk result (λ answer. IsPageTold before (Some after.now)
-        (option_map view answer.1.opened) (option_map view answer.1.page)) }
+        (opened_data answer.1.opened (Some after.now))
+        (change_data answer.1.change (Some after.now))) }
+    ensures lies { IfOk result (λ answer. LiesIn answer.1.change (Some after.now)) }
     ensures page { IfOk result (λ answer. answer.0 ≡ Some after.now) }
-    ensures plain { IfOk result (λ answer. IsPlain answer.1) }
 {
     let (mut page, opened) = start(alloc, before, after)?;
-    let touched = if opened.is_some() {
-        Touched::Whole
-    } else {
-        touched
-    };
-    let patch = follow(alloc, &mut page, after, touched)?;
-    Ok((
-        Some(page),
-        PageTold {
-            opened,
-            page: patch,
-        },
-    ))
+    let touched = if opened { Touched::Whole } else { touched };
+    let change = follow(alloc, &mut page, after, touched)?;
+    Ok((Some(page), PageTold { opened, change }))
 }
 
 /// What is told of the open page now, where it was so before, and a step touched this of it. The answer has the page of now, too.
@@ -193,9 +257,11 @@ pub(crate) fn told_page(
     requires { KeepsRest touched before (option_map (λ page. page.now) now) }
     ensures told { IfOk result (λ answer. IsPageTold before
         (option_map (λ page. page.now) now.entry)
-        (option_map view answer.1.opened) (option_map view answer.1.page)) }
+        (opened_data answer.1.opened (option_map (λ page. page.now) now.entry))
+        (change_data answer.1.change (option_map (λ page. page.now) now.entry))) }
+    ensures lies { IfOk result (λ answer.
+        LiesIn answer.1.change (option_map (λ page. page.now) now.entry)) }
     ensures page { IfOk result (λ answer. answer.0 ≡ option_map (λ page. page.now) now.entry) }
-    ensures plain { IfOk result (λ answer. IsPlain answer.1) }
 {
     match now {
         Some(after) => told_open(alloc, before, after, touched),

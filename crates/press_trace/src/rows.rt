@@ -1,51 +1,48 @@
 //! The rows of a region of a page.
 
-ghost use Rattle.std.specs.Prelude.{◌≡◌, ◌+◌, ◌*◌, ◌^◌, ◌<◌, ◌≤◌, ℕ, length, slice_index, if◌then◌else◌, IfOk, map};
+ghost use Rattle.std.specs.Prelude.{◌≡◌, ◌++◌, ◌+◌, ◌*◌, ◌^◌, ◌<◌, ◌≤◌, ℕ, length, slice_index, if◌then◌else◌, IfOk, OnOk};
 ghost use Rattle.hex.specs.Hex.{encode_upper};
-ghost use Rattle.serde_json.specs.Data.{string};
-ghost use Rattle.serde_json.specs.View.{view, items_view, items_of};
+ghost use Rattle.serde_json.specs.Data.{array, string};
+ghost use Rattle.serde_json.specs.View.{items_of};
+ghost use Rattle.serde_json.specs.Written.{compact_text};
 ghost use Rattle.press_bits.specs.Page.{black_at};
 ghost use Rattle.press_bits.specs.Patches.{LiesOn};
 ghost use Rattle.press_pbm.specs.Spelling.{byte_of_dots, line_bytes};
 ghost use Rattle.press_trace.specs.Pages.{rows_of, row_in};
 
+use crate::appending::{append_comma, append_hexadecimal};
 use press_bits::{Bitmap, Region, WIDEST_ROW};
 use press_canvas::Canvas;
-use serde_json::Value;
 use std::alloc::{AllocError, Global};
 
 /// The rows of a page that does not lie upright are gathered dot by dot where they have at most so many bytes.
 const MOST_GATHERED: usize = 16;
 
-/// Bytes in hexadecimal.
-fn hexadecimal(alloc: Global, bytes: &[u8]) -> Result<Value, AllocError>
-    ensures { IfOk result (λ value. view value ≡ string (encode_upper bytes.now)) }
-{
-    Ok(Value::String(hex::encode_upper(alloc, bytes)?))
-}
-
-/// Bytes of a line of a page.
-fn row_value(alloc: Global, line: &[u8], region: Region) -> Result<Value, AllocError>
+/// Appends bytes of a line of a page.
+fn append_row(line: &[u8], region: Region, text: &mut Vec<u8>) -> Result<(), AllocError>
     requires some { region.left < region.right }
     requires within { region.right ≤ length line.now }
-    ensures value { IfOk result (λ value. view value
-        ≡ string (encode_upper (row_in region line.now))) }
+    ensures value { OnOk result (text.new.items
+        ≡ text.old.items ++ compact_text (string (encode_upper (row_in region line.now)))) }
     ensures bytes { (i : ℕ) → slice_index line.now i < 256 }
 {
-    hexadecimal(alloc, &line[region.left..region.right])
+    append_hexadecimal(&line[region.left..region.right], text)
 }
 
-/// The rows of a region of a page, read of its lines.
-fn rows_read(alloc: Global, page: &Bitmap, region: Region) -> Result<Vec<Value>, AllocError>
+/// Appends the rows of a region of a page, read of its lines.
+fn append_read(page: &Bitmap, region: Region, text: &mut Vec<u8>) -> Result<(), AllocError>
     requires { LiesOn page.now region }
-    ensures { IfOk result (λ rows. items_view rows.items ≡ items_of (rows_of page.now region)) }
+    ensures { OnOk result (text.new.items
+        ≡ text.old.items ++ compact_text (array (items_of (rows_of page.now region)))) }
 {
     let _width = page.width();
-    let mut rows = Vec::new(alloc);
+    text.push(b'[')?;
     for y in region.top..region.bottom {
-        rows.push(row_value(alloc, page.line(y), region)?)?;
+        append_comma(region.top < y, text)?;
+        append_row(page.line(y), region, text)?;
     }
-    Ok(rows)
+    text.push(b']')?;
+    Ok(())
 }
 
 /// The bit of a dot of a page.
@@ -83,36 +80,45 @@ fn row_gathered(alloc: Global, page: &Canvas, region: Region, y: u32) -> Result<
     Ok(row)
 }
 
-/// The rows of a region of a page, gathered dot by dot.
-fn rows_gathered(alloc: Global, page: &Canvas, region: Region) -> Result<Vec<Value>, AllocError>
-    requires lies { LiesOn page.now region }
-    requires narrow { region.right ≤ WIDEST_ROW }
-    ensures { IfOk result (λ rows. items_view rows.items ≡ items_of (rows_of page.now region)) }
-{
-    let mut rows = Vec::new(alloc);
-    for line in region.top..region.bottom {
-        let row = row_gathered(alloc, page, region, line)?;
-        rows.push(hexadecimal(alloc, &row)?)?;
-    }
-    Ok(rows)
-}
-
-/// The rows of a region of a page. Those of a page that lies upright are read; short ones of another are gathered, and long ones are read of the page
-/// that is turned.
-pub(crate) fn rows_value(
+/// Appends the rows of a region of a page, gathered dot by dot.
+fn append_gathered(
     alloc: Global,
     page: &Canvas,
     region: Region,
-) -> Result<Vec<Value>, AllocError>
+    text: &mut Vec<u8>,
+) -> Result<(), AllocError>
+    requires lies { LiesOn page.now region }
+    requires narrow { region.right ≤ WIDEST_ROW }
+    ensures { OnOk result (text.new.items
+        ≡ text.old.items ++ compact_text (array (items_of (rows_of page.now region)))) }
+{
+    text.push(b'[')?;
+    for line in region.top..region.bottom {
+        append_comma(region.top < line, text)?;
+        append_hexadecimal(&row_gathered(alloc, page, region, line)?, text)?;
+    }
+    text.push(b']')?;
+    Ok(())
+}
+
+/// Appends the rows of a region of a page. Those of a page that lies upright are read; short ones of another are gathered, and long ones are
+/// read of the page that is turned.
+pub(crate) fn append_rows(
+    alloc: Global,
+    page: &Canvas,
+    region: Region,
+    text: &mut Vec<u8>,
+) -> Result<(), AllocError>
     requires { LiesOn page.now region }
-    ensures { IfOk result (λ rows. items_view rows.items ≡ items_of (rows_of page.now region)) }
+    ensures { OnOk result (text.new.items
+        ≡ text.old.items ++ compact_text (array (items_of (rows_of page.now region)))) }
 {
     let _extent = page.extent();
     if let Some(bitmap) = page.upright() {
-        return rows_read(alloc, bitmap, region);
+        return append_read(bitmap, region, text);
     }
     if region.right - region.left <= MOST_GATHERED {
-        return rows_gathered(alloc, page, region);
+        return append_gathered(alloc, page, region, text);
     }
-    rows_read(alloc, &page.page(alloc)?, region)
+    append_read(&page.page(alloc)?, region, text)
 }

@@ -1,14 +1,16 @@
 //! What changed of what can be seen.
 
-ghost use Rattle.std.specs.Prelude.{◌≡◌, IfOk, OnOk, option_map, not};
-ghost use Rattle.serde_json.specs.Data.{no_members};
-ghost use Rattle.serde_json.specs.View.{view, members_view};
-ghost use Rattle.press_trace.specs.Seen.{is_told, told_fields, told_groups, view_told, object_if, put_some, IsAlike};
+ghost use Rattle.std.specs.Prelude.{◌≡◌, ◌++◌, IfOk, OnOk, option_map, not, map, codes, true, false};
+ghost use Rattle.std.specs.List.{list_any};
+ghost use Rattle.press_trace.specs.Fields.{group_word};
+ghost use Rattle.press_trace.specs.Lines.{view_object};
+ghost use Rattle.press_trace.specs.Seen.{is_told, tells_some, field_slot, group_told, group_slot, IsAlike};
+ghost use Rattle.press_trace.specs.Slots.{member_text, is_later, texts_of};
 
+use crate::appending::append_key;
 use crate::fields::{Field, GROUPS, Group};
 use press_cursor::CursorPosition;
 use press_engine::View;
-use serde_json::{Map, Value, put};
 use std::alloc::{AllocError, Global};
 
 /// What could be seen at some time, kept.
@@ -90,82 +92,104 @@ fn is_told(before: Option<&View<'_>>, now: &View<'_>, field: Field) -> bool
     }
 }
 
-/// Those of these fields that are told.
-fn told_fields(
+/// Whether some of these fields are told.
+fn tells_some(before: Option<&View<'_>>, now: &View<'_>, fields: &[Field]) -> bool
+    ensures { result
+        ≡ list_any (is_told (option_map (λ view. view.now) before.entry) now.now) fields.now }
+{
+    fields.iter().any(|field| is_told(before, now, *field))
+}
+
+/// Whether a field of some of these groups is told.
+fn tells_some_group(before: Option<&View<'_>>, now: &View<'_>, groups: &[Group]) -> bool
+    ensures { result
+        ≡ list_any (tells_some (option_map (λ view. view.now) before.entry) now.now) groups.now }
+{
+    groups
+        .iter()
+        .any(|group| tells_some(before, now, group.fields()))
+}
+
+/// Appends those of these fields that are told.
+fn append_fields(
     alloc: Global,
     before: Option<&View<'_>>,
     now: &View<'_>,
     fields: &[Field],
-) -> Result<Map<String, Value>, AllocError>
-    ensures { IfOk result (λ members. members_view members.entries
-        ≡ told_fields (option_map (λ view. view.now) before.entry) now.now fields.now no_members) }
+    text: &mut Vec<u8>,
+) -> Result<(), AllocError>
+    ensures { OnOk result (text.new.items ≡ text.old.items ++ texts_of false
+        (map (field_slot (option_map (λ view. view.now) before.entry) now.now) fields.now)) }
 {
-    let mut members = Map::new(alloc);
+    let mut later = false;
     for field in fields {
         if is_told(before, now, *field) {
-            put(
-                &mut members,
-                alloc,
-                field.key(),
-                field.told(now).to_value(alloc)?,
-            )?;
+            append_key(alloc, later, field.key(), text)?;
+            field.told(now).append(text)?;
+            later = true;
         }
     }
-    Ok(members)
+    Ok(())
 }
 
-/// An object of members, if there are any.
-pub(crate) fn object_of(members: Map<String, Value>) -> Option<Value>
-    ensures { option_map view result ≡ object_if (members_view members.entries) }
-{
-    if members.is_empty() {
-        return None;
-    }
-    Some(Value::Object(members))
-}
-
-/// Puts a member that is there.
-pub(crate) fn put_some(
-    members: &mut Map<String, Value>,
+/// Appends the object of a group under its word, if a field of it is told. The answer is whether something stands in front of what comes next.
+fn append_group(
     alloc: Global,
-    key: &str,
-    value: Option<Value>,
-) -> Result<(), AllocError>
-    ensures { OnOk result (members_view members.new.entries
-        ≡ put_some key.now (option_map view value) (members_view members.old.entries)) }
+    later: bool,
+    before: Option<&View<'_>>,
+    now: &View<'_>,
+    group: Group,
+    text: &mut Vec<u8>,
+) -> Result<bool, AllocError>
+    ensures text { OnOk result (text.new.items ≡ text.old.items ++ member_text later
+        (group_word group) (group_told (option_map (λ view. view.now) before.entry) now.now group)) }
+    ensures behind { IfOk result (λ behind. behind ≡ is_later later
+        (group_told (option_map (λ view. view.now) before.entry) now.now group)) }
 {
-    match value {
-        Some(value) => put(members, alloc, key, value),
-        None => Ok(()),
+    if !tells_some(before, now, group.fields()) {
+        return Ok(later);
     }
+    append_key(alloc, later, group.word(), text)?;
+    text.push(b'{')?;
+    append_fields(alloc, before, now, group.fields(), text)?;
+    text.push(b'}')?;
+    Ok(true)
 }
 
-/// The objects of these groups in which a field is told.
-fn told_groups(
+/// Appends the objects of those of these groups in which a field is told.
+fn append_groups(
     alloc: Global,
     before: Option<&View<'_>>,
     now: &View<'_>,
     groups: &[Group],
-) -> Result<Map<String, Value>, AllocError>
-    ensures { IfOk result (λ members. members_view members.entries
-        ≡ told_groups (option_map (λ view. view.now) before.entry) now.now groups.now no_members) }
+    text: &mut Vec<u8>,
+) -> Result<(), AllocError>
+    ensures { OnOk result (text.new.items ≡ text.old.items ++ texts_of false
+        (map (group_slot (option_map (λ view. view.now) before.entry) now.now) groups.now)) }
 {
-    let mut members = Map::new(alloc);
+    let mut later = false;
     for group in groups {
-        let told = told_fields(alloc, before, now, group.fields())?;
-        put_some(&mut members, alloc, group.word(), object_of(told))?;
+        later = append_group(alloc, later, before, now, *group, text)?;
     }
-    Ok(members)
+    Ok(())
 }
 
-/// The objects in which a field is told.
-pub(crate) fn told_view(
+/// Appends what changed of what can be seen, behind another member.
+pub(crate) fn append_view(
     alloc: Global,
     before: Option<&View<'_>>,
     now: &View<'_>,
-) -> Result<Map<String, Value>, AllocError>
-    ensures { IfOk result (λ members. members_view members.entries
-        ≡ view_told (option_map (λ view. view.now) before.entry) now.now) }
+    text: &mut Vec<u8>,
+) -> Result<(), AllocError>
+    ensures { OnOk result (text.new.items ≡ text.old.items ++ member_text true (codes "view")
+        (view_object (option_map (λ view. view.now) before.entry) now.now)) }
 {
-    told_groups(alloc, before, now, &GROUPS)
+    if !tells_some_group(before, now, &GROUPS) {
+        return Ok(());
+    }
+    append_key(alloc, true, "view", text)?;
+    text.push(b'{')?;
+    append_groups(alloc, before, now, &GROUPS, text)?;
+    text.push(b'}')?;
+    Ok(())
 }

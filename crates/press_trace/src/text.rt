@@ -1,32 +1,19 @@
-//! Bytes as text.
+//! Kinds of commands as texts of JSON.
 
-ghost use Rattle.std.specs.Prelude.{◌≡◌, IfOk, string_bytes};
-ghost use Rattle.std.specs.List.{flat_map};
-ghost use Rattle.press_trace.specs.Texts.{text_of, kind_data};
-ghost use Rattle.serde_json.specs.Data.{string};
-ghost use Rattle.serde_json.specs.View.{view};
+ghost use Rattle.std.specs.Prelude.{◌≡◌, ◌++◌, OnOk};
+ghost use Rattle.press_trace.specs.Texts.{kind_data};
+ghost use Rattle.serde_json.specs.Written.{compact_text};
 
+use crate::appending::append_text;
 use press_asm::write_kind;
 use press_cmd::Kind;
-use serde_json::Value;
 use std::alloc::{AllocError, Global};
 
-/// Bytes as a text of JSON: each byte as the character of its number.
-pub(crate) fn text_value(alloc: Global, bytes: &[u8]) -> Result<Value, AllocError>
-    ensures { IfOk result (λ value. view value ≡ string (text_of bytes.now)) }
-{
-    let mut text = String::new(alloc);
-    for byte in bytes {
-        text.push(char::from(*byte))?;
-    }
-    Ok(Value::String(text))
-}
-
-/// The kind of a command, as the assembly text spells it.
-pub(crate) fn kind_value(alloc: Global, kind: Kind) -> Result<Value, AllocError>
-    ensures { IfOk result (λ value. view value ≡ kind_data kind) }
+/// Appends the kind of a command, as the assembly text spells it.
+pub(crate) fn append_kind(alloc: Global, kind: Kind, text: &mut Vec<u8>) -> Result<(), AllocError>
+    ensures { OnOk result (text.new.items ≡ text.old.items ++ compact_text (kind_data kind)) }
 {
     let mut line = Vec::new(alloc);
     write_kind(kind, &mut line)?;
-    text_value(alloc, &line)
+    append_text(alloc, &line, text)
 }

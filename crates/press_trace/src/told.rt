@@ -1,12 +1,14 @@
 //! What a field tells.
 
-ghost use Rattle.std.specs.Prelude.{◌≡◌, IfOk, map};
-ghost use Rattle.serde_json.specs.View.{view, items_view, items_of};
+ghost use Rattle.std.specs.Prelude.{◌≡◌, ◌++◌, OnOk, map};
+ghost use Rattle.serde_json.specs.Data.{array};
+ghost use Rattle.serde_json.specs.View.{items_of};
+ghost use Rattle.serde_json.specs.Written.{compact_text};
 ghost use Rattle.press_trace.specs.Told.{data_of, number_in, place_data, is_same};
 
+use crate::appending::{append_comma, append_flag, append_integer, append_number};
 use press_cursor::CursorPosition;
-use serde_json::Value;
-use std::alloc::{AllocError, Global};
+use std::alloc::AllocError;
 
 /// What a field tells.
 #[derive(Clone, Copy)]
@@ -35,15 +37,16 @@ impl Told<'_> {
         }
     }
 
-    /// What it tells as a value of JSON.
-    pub(crate) fn to_value(self, alloc: Global) -> Result<Value, AllocError>
-        ensures { IfOk result (λ value. view value ≡ data_of self.entry) }
+    /// Appends what it tells.
+    pub(crate) fn append(self, text: &mut Vec<u8>) -> Result<(), AllocError>
+        ensures { OnOk result (text.new.items
+            ≡ text.old.items ++ compact_text (data_of self.entry)) }
     {
         match self {
-            Told::Number(number) => Ok(Value::from(number)),
-            Told::Flag(flag) => Ok(Value::Bool(flag)),
-            Told::Places(places) => Ok(Value::Array(places_of(alloc, places)?)),
-            Told::Nothing => Ok(Value::Null),
+            Told::Number(number) => append_number(number, text),
+            Told::Flag(flag) => append_flag(flag, text),
+            Told::Places(places) => append_places(places, text),
+            Told::Nothing => text.extend_from_slice(b"null"),
         }
     }
 }
@@ -58,24 +61,30 @@ pub(crate) fn number_in(number: Option<u16>) -> Told<'static>
     }
 }
 
-/// A place as the array of its two distances.
-fn place_value(alloc: Global, place: CursorPosition) -> Result<Value, AllocError>
-    ensures { IfOk result (λ value. view value ≡ place_data place) }
+/// Appends a place as the array of its two distances.
+fn append_place(place: CursorPosition, text: &mut Vec<u8>) -> Result<(), AllocError>
+    ensures { OnOk result (text.new.items ≡ text.old.items ++ compact_text (place_data place)) }
 {
-    let mut distances = Vec::new(alloc);
-    distances.push(Value::from(place.x))?;
-    distances.push(Value::from(place.y))?;
-    Ok(Value::Array(distances))
+    text.push(b'[')?;
+    append_number(u64::from(place.x), text)?;
+    text.push(b',')?;
+    append_integer(place.y, text)?;
+    text.push(b']')?;
+    Ok(())
 }
 
-/// Places as values.
-fn places_of(alloc: Global, places: &[CursorPosition]) -> Result<Vec<Value>, AllocError>
-    ensures { IfOk result (λ values.
-        items_view values.items ≡ items_of (map place_data places.now)) }
+/// Appends places as an array.
+fn append_places(places: &[CursorPosition], text: &mut Vec<u8>) -> Result<(), AllocError>
+    ensures { OnOk result (text.new.items
+        ≡ text.old.items ++ compact_text (array (items_of (map place_data places.now)))) }
 {
-    let mut values = Vec::new(alloc);
+    text.push(b'[')?;
+    let mut later = false;
     for place in places {
-        values.push(place_value(alloc, *place)?)?;
+        append_comma(later, text)?;
+        append_place(*place, text)?;
+        later = true;
     }
-    Ok(values)
+    text.push(b']')?;
+    Ok(())
 }

@@ -4,7 +4,7 @@ ghost use Rattle.std.specs.Prelude.{◌≡◌, ◌≤◌, ◌+◌, false, length
 
 use crate::line::seen_line;
 use crate::line_of::LineOf;
-use crate::page::{PageTold, told_page};
+use crate::page::{AS_IT_WAS, PageTold, told_page};
 use crate::place::Place;
 use crate::seen::Seen;
 use crate::sent::WentOut;
@@ -31,12 +31,10 @@ pub(crate) struct Tracer {
 
 impl Tracer {
     ghost use Rattle.std.specs.Prelude.{Some, Option, option_map};
-    ghost use Rattle.serde_json.specs.View.{view};
     ghost use Rattle.press_engine.specs.declared.machine.Machine.{Machine};
     ghost use Rattle.press_trace.specs.Lines.{IsLineOf};
     ghost use Rattle.press_table.specs.Outputs.{all_outputs};
-    ghost use Rattle.press_trace.specs.Pages.{IsPageTold};
-    ghost use Rattle.press_trace.specs.Plain.{IsPlain};
+    ghost use Rattle.press_trace.specs.Pages.{IsPageTold, opened_data, change_data, LiesIn};
     ghost use Rattle.press_stream.specs.State.{input_ended};
     ghost use Rattle.press_trace.specs.Tracing.{IsAtStart, IsSound, IsKept, Tells, TellsBy, TellsRunIf, Shows, ShowsSome, most_bytes, placed_run, place_if, with_more};
 
@@ -157,14 +155,14 @@ impl Tracer {
         requires { ShowsSome self.old touched }
         ensures told { IfOk result (λ told. (machine : Machine) → Shows self.old touched machine
             → IsPageTold self.old.page machine.state.page
-            (option_map view told.opened) (option_map view told.page)) }
+            (opened_data told.opened self.new.page) (change_data told.change self.new.page)) }
         ensures page { OnOk result ((machine : Machine) → Shows self.old touched machine
             → self.new.page ≡ machine.state.page) }
-        ensures plain { IfOk result IsPlain }
+        ensures lies { IfOk result (λ told. LiesIn told.change self.new.page) }
         ensures others { OnOk result (self.new ≡ record self.old { page = self.new.page }) }
     {
         if let Touched::Nothing = touched {
-            return Ok(PageTold::nothing());
+            return Ok(AS_IT_WAS);
         }
         let before = self.page.take();
         let (page, told) = told_page(self.alloc, before, self.job.page(), touched)?;
@@ -184,7 +182,7 @@ impl Tracer {
         ensures others { OnOk result (self.new
             ≡ record self.old { before = self.new.before; page = self.new.page }) }
     {
-        let page = self.page_told(touched)?;
+        let told = self.page_told(touched)?;
         let went = WentOut::of(&mut self.job, self.alloc, sent)?;
         let view = self.job.view();
         let line = seen_line(
@@ -194,7 +192,8 @@ impl Tracer {
             &went,
             &self.before,
             &view,
-            page,
+            told,
+            self.page.as_ref(),
         )?;
         self.before = Some(Seen::of(self.alloc, &view)?);
         Ok(line)

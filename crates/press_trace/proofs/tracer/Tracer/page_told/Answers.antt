@@ -1,5 +1,4 @@
-use Rattle.std.proofs.Common.{rules, ◌≡◌, ap, subst, Option, option_map}
-use Rattle.serde_json.specs.View.{view}
+use Rattle.std.proofs.Common.{rules, ◌≡◌, subst, refl, Option, None}
 use Rattle.press_bits.specs.Page.{Page}
 use Rattle.press_trace.specs.Pages.{IsPageTold, KeepsRest}
 use Rattle.press_trace.specs.declared.touched.Touched.{Touched}
@@ -11,5 +10,4 @@ pub returns-in-Nothing-clause-told : goal.returns-in-Nothing-clause-told
 returns-in-Nothing-clause-told c = λ machine shows.
     let nothing : c.args.touched ≡ Nothing = search rules in
     let same = subst (λ (touched : Touched). KeepsRest touched c.args.self.now.page machine.state.page) nothing shows.keeps in
-    subst (λ (after : Option Page). IsPageTold c.args.self.now.page after (option_map view c.nothing.result.opened) (option_map view c.nothing.result.page)) same
-    (told_same c.args.self.now.page _ _ (ap (option_map view) c.nothing.ensures.opened) (ap (option_map view) c.nothing.ensures.page))
+    subst (λ (after : Option Page). IsPageTold c.args.self.now.page after None None) same (told_same c.args.self.now.page None None refl refl)

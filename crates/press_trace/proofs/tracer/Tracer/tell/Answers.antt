@@ -1,5 +1,5 @@
-use Rattle.std.proofs.Common.{◌≡◌, ◌∙◌, Option, Some, IfSome, option_map, ap, subst}
-use Rattle.serde_json.specs.View.{view as told}
+use Rattle.std.proofs.Common.{◌≡◌, ◌∙◌, Option, Some, IfSome, ap, subst}
+use Rattle.press_bits.specs.Page.{Page}
 use Rattle.press_engine.specs.declared.machine.Machine.{Machine}
 use Rattle.press_engine.specs.Engine.{view_of}
 use Rattle.press_table.specs.Outputs.{all_outputs}
@@ -8,6 +8,7 @@ use Rattle.press_trace.specs.declared.place.Place.{Place}
 use Rattle.press_trace.specs.declared.seen.Seen.{Seen}
 use Rattle.press_trace.specs.declared.tracer.Tracer.{Tracer}
 use Rattle.press_trace.specs.Lines.{IsViewOf, run_members, line_text}
+use Rattle.press_trace.specs.Pages.{opened_data, change_data}
 use Rattle.press_trace.specs.Seen.{IsAlikeIf}
 use Rattle.press_trace.proofs.StepLemmas.{is_line, keeps_now}
 use Rattle.press_trace.proofs.tracer.Tracer.tell.Goals as goal
@@ -15,7 +16,7 @@ use Rattle.press_trace.proofs.tracer.Tracer.tell.Goals as goal
 pub returns-clause-line : goal.returns-clause-line
 returns-clause-line c = λ machine shows before keeps.
     let old = c.args.self.now in
-    let stays = c.in_ok-page.ensures.others in
+    let stays = c.in_ok-told.ensures.others in
     let running : c.of.new.job.machine ≡ Some machine = ap (λ (job : JobState). job.machine) (c.in_ok-went.ensures.job ∙ ap (λ (tracer : Tracer). tracer.job) stays) ∙ shows.running in
     let view = c.view-view.result in
     let is : IsViewOf machine view = (
@@ -25,22 +26,24 @@ returns-clause-line c = λ machine shows before keeps.
     let line = c.in_ok-line.ensures in
     let alike = subst (λ (kept : Option Seen). IsAlikeIf kept line.0) (ap (λ (tracer : Tracer). tracer.before) stays) line.1 in
     is_line c.args.steps before old.place machine (all_outputs c.args.sent.now) old.before old.page line.0 view
-    (option_map told c.in_ok-page.page.opened) (option_map told c.in_ok-page.page.page) c.in_ok-went.went c.in_ok-line.line.items keeps
+    (opened_data c.in_ok-told.told.opened c.page_told.new.self.page) (change_data c.in_ok-told.told.change c.page_told.new.self.page) c.in_ok-went.went c.in_ok-line.line.items keeps
     alike is
-    (c.in_ok-page.ensures.told machine shows) c.in_ok-went.ensures.went
+    (c.in_ok-told.ensures.told machine shows) c.in_ok-went.ensures.went
     (line.2
+    ∙ ap (λ (page : Option Page). line_text (run_members c.args.steps c.page_told.new.self.place c.in_ok-went.went.sheets c.in_ok-went.went.replies.items line.0 view
+    (opened_data c.in_ok-told.told.opened page) (change_data c.in_ok-told.told.change page))) c.as_ref.ensures.value
     ∙ ap (λ (place : Place).
     line_text (run_members c.args.steps place c.in_ok-went.went.sheets c.in_ok-went.went.replies.items line.0 view
-    (option_map told c.in_ok-page.page.opened) (option_map told c.in_ok-page.page.page)))
+    (opened_data c.in_ok-told.told.opened c.page_told.new.self.page) (change_data c.in_ok-told.told.change c.page_told.new.self.page)))
     (ap (λ (tracer : Tracer). tracer.place) stays))
 
 pub returns-clause-kept : goal.returns-clause-kept
 returns-clause-kept c = λ machine shows.
-    let stays = c.in_ok-page.ensures.others in
+    let stays = c.in_ok-told.ensures.others in
     let running : c.of.new.job.machine ≡ Some machine = ap (λ (job : JobState). job.machine) (c.in_ok-went.ensures.job ∙ ap (λ (tracer : Tracer). tracer.job) stays) ∙ shows.running in
     let view = c.view-view.result in
     let is : IsViewOf machine view = (
       subst (λ (some : Option Machine). IfSome some (λ machine. view ≡ view_of view.stack machine)) running c.view-view.ensures.view,
       subst (λ (some : Option Machine). IfSome some (λ machine. view.stack.now ≡ machine.state.cursor.stack)) running c.view-view.ensures.stack,
     ) in
-    keeps_now c.in_ok-of.field-0 view c.page_told.new.self.page machine c.in_ok-of.ensures is (c.in_ok-page.ensures.page machine shows)
+    keeps_now c.in_ok-of.field-0 view c.page_told.new.self.page machine c.in_ok-of.ensures is (c.in_ok-told.ensures.page machine shows)

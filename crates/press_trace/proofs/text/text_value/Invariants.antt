@@ -1,6 +1,0 @@
-use Rattle.std.proofs.Common.{◌≡◌, ◌++◌, drop, string_bytes}
-use Rattle.press_trace.specs.Texts.{text_of}
-use Rattle.press_trace.proofs.text.text_value.Given as goal
-
-abbrev pub invariant-loop-byte : goal.invariant-loop-byte
-invariant-loop-byte l = string_bytes l.text ++ text_of (drop l.byte-index l.bytes) ≡ text_of l.bytes
