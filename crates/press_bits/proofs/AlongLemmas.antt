@@ -31,8 +31,9 @@ past_test from to p past = grind (arith, nat_tests)
 within_test : (from to p : ℕ) → from ≤ p → p < to → (nat_le from p && nat_lt p to) ≡ true
 within_test from to p reached before = grind (arith, nat_tests)
 
-reached_of : (from to p : ℕ) → (nat_le from p && nat_lt p to) ≡ true → from ≤ p
-reached_of from to p test = grind (arith, nat_tests)
+-- the places of a run
+pub in_run_test : (a b p : ℕ) → (nat_le a p && nat_lt p b) ≡ true → (a ≤ p) × (p < b)
+in_run_test a b p test = grind (arith, nat_tests)
 
 pub painted_none : (old : List ℕ) (mode : Mode) (source tile : ℕ → Bool) (from to : ℕ) → to ≤ from → IsPaintedBetween old old mode source tile from to
 painted_none old mode source tile from to none p = sym (not_mixed _ mode (source p) (tile p) (row_dot old p) (no_dot from to p none))
@@ -64,7 +65,7 @@ painted_then old rows new mode source tile from at to begun left first second p 
 -- the dots of a word are painted into eight bytes
 pub painted_word : (old new : List ℕ) (mode : Mode) (source tile : ℕ → Bool) (index from to dots through mask before after : ℕ) →
     8 * index ≤ from → to ≤ 8 * index + 64 →
-    ((j : ℕ) → j < 64 → word_dot dots j ≡ source (from + j)) →
+    ((j : ℕ) → j < 64 → from + j < to → word_dot dots j ≡ source (from + j)) →
     ((j : ℕ) → j < 64 → word_dot through j ≡ tile (from + j)) →
     ((j : ℕ) → j < 64 → word_dot mask j ≡ (nat_le from (8 * index + j) && nat_lt (8 * index + j) to)) →
     ((j : ℕ) → j < 64 → word_dot before j ≡ row_dot old (8 * index + j)) →
@@ -82,9 +83,12 @@ painted_word old new mode source tile index from to dots through mask before aft
     ]
   where
     -- a dot of what was shifted to its place
-    late : (word p j : ℕ) (dot : ℕ → Bool) → p ≡ 8 * index + j → j < 64 → from ≤ p → ((i : ℕ) → i < 64 → word_dot word i ≡ dot (from + i)) → word_dot (word / 2 ^ (from - 8 * index)) j ≡ dot p
+    late : (word p j : ℕ) (dot : ℕ → Bool) → p ≡ 8 * index + j → j < 64 → (from ≤ p) × (p < to) → ((i : ℕ) → i < 64 → from + i < to → word_dot word i ≡ dot (from + i))
+        → word_dot (word / 2 ^ (from - 8 * index)) j ≡ dot p
     late word p j dot place low reached is =
-        shifted_right word (from - 8 * index) j (omega arith) low ∙ is (j - (from - 8 * index)) (omega arith) ∙ ap dot (omega arith)
+        shifted_right word (from - 8 * index) j (omega (arith, reached.0)) low
+        ∙ is (j - (from - 8 * index)) (omega (arith, reached.0)) (omega (arith, reached.0, reached.1))
+        ∙ ap dot (omega (arith, reached.0))
 
     inside : (p j : ℕ) → p ≡ 8 * index + j → j < 64 → row_dot new p ≡ mixed_dot (nat_le from p && nat_lt p to) mode (source p) (tile p) (row_dot old p)
     inside p j place low =
@@ -94,7 +98,7 @@ painted_word old new mode source tile index from to dots through mask before aft
         ∙ (λ i. mixed_dot (masks j low i) mode (word_dot (dots / 2 ^ (from - 8 * index)) j) (word_dot (through / 2 ^ (from - 8 * index)) j) (befores j low i))
         ∙ ap (λ q. mixed_dot (nat_le from q && nat_lt q to) mode (word_dot (dots / 2 ^ (from - 8 * index)) j) (word_dot (through / 2 ^ (from - 8 * index)) j) (row_dot old q)) (sym place)
         ∙ mixed_when (nat_le from p && nat_lt p to) mode (word_dot (dots / 2 ^ (from - 8 * index)) j) (source p) (word_dot (through / 2 ^ (from - 8 * index)) j) (tile p) (row_dot old p)
-        (λ t. late dots p j source place low (reached_of from to p t) sources) (λ t. late through p j tile place low (reached_of from to p t) tiles)
+        (λ t. late dots p j source place low (in_run_test from to p t) sources) (λ t. late through p j tile place low (in_run_test from to p t) (λ i small _. tiles i small))
 
 -- a black dot through a black one
 black_dot : (inside : Bool) (mode : Mode) (source pattern before : Bool) → inside ≡ true → source ≡ true → pattern ≡ true → true ≡ mixed_dot inside mode source pattern before
@@ -195,7 +199,3 @@ blackened_word old new index from to mask before begun within masks befores here
         ∙ (λ i. befores j low i || masks j low i)
         ∙ or_if (nat_le from (8 * index + j) && nat_lt (8 * index + j) to) (row_dot old (8 * index + j))
         ∙ ap (λ q. if nat_le from q && nat_lt q to then true else row_dot old q) (sym place)
-
--- the places of a run
-pub in_run_test : (a b p : ℕ) → (nat_le a p && nat_lt p b) ≡ true → (a ≤ p) × (p < b)
-in_run_test a b p test = grind (arith, nat_tests)

@@ -1,5 +1,5 @@
 -- The part of a stroke that has ink.
-use Rattle.std.proofs.Common.{◌≡◌, ℕ, ◌+◌, ◌-◌, ◌*◌, ◌<◌, ◌≤◌, ◌⊎◌, Bool, true, false, ◌&&◌, List, refl, sym, ap, ◌∙◌, inl, inr, arith}
+use Rattle.std.proofs.Common.{◌≡◌, ℕ, ◌+◌, ◌-◌, ◌*◌, ◌<◌, ◌≤◌, ◌⊎◌, min, max, Bool, true, false, ◌&&◌, List, sym, ap, ◌∙◌, inl, inr, arith}
 use Rattle.std.specs.Prelude.{nat_le, nat_lt}
 use Rattle.std.proofs.lemmas.Bool.{cases_lt}
 use Rattle.std.proofs.lemmas.Bool.Decides.{nat_tests}
@@ -20,49 +20,69 @@ white_word bits word first place dots none begun within =
     let at : place ≡ first + (place - first) = omega (arith, begun) in
     ap (row_dot bits) at ∙ sym (dots (place - first) (omega (arith, begun, within))) ∙ ap (λ n. word_dot n (place - first)) none ∙ word_dot-zeros (place - first)
 
--- a part without a white word in front, and one without a white word behind
-pub ink_behind : (stroke : Stroke) (part : Run) (word : ℕ) → HasInkOf stroke part → stroke.mode.source_opaque ≡ false → 64 ≤ part.count
-    → ((j : ℕ) → j < 64 → word_dot word j ≡ row_dot stroke.source.bits.now (part.skip + j)) → word ≡ 0
-    → HasInkOf stroke (record { first = part.first + 64; skip = part.skip + 64; count = part.count - 64 })
-ink_behind stroke part word ink transparent long dots none = record {
-  begun = omega (arith, ink.begun);
-  along = omega (arith, ink.along);
-  within = omega (arith, ink.within, long);
-  white = λ place begun within out. elim (cases_lt place part.first) [
-    | inl before ↦ ink.white place begun within (inl before)
-    | inr reached ↦ elim (cases_lt place (part.first + 64)) [
-      | inl low ↦
-          let there : stroke.run.skip + (place - stroke.run.first) ≡ part.skip + (place - part.first) = omega (arith, ink.along, begun, reached) in
-          (transparent, white_word stroke.source.bits.now word part.skip _ dots none (omega (arith, there)) (omega (arith, there, low, reached)))
-      | inr past ↦ ink.white place begun within (inr (elim out [
-        | inl before ↦ absurd (omega (arith, before, past))
-        | inr behind ↦ omega (arith, behind, long)
-      ]))
+-- white dots, and those of a white word behind them
+pub white_behind : (bits : List ℕ) (first begin word : ℕ) → ((p : ℕ) → 8 * first ≤ p → p < 8 * begin → row_dot bits p ≡ false)
+    → ((j : ℕ) → j < 64 → word_dot word j ≡ row_dot bits (8 * begin + j)) → word ≡ 0
+    → (p : ℕ) → 8 * first ≤ p → p < 8 * (begin + 8) → row_dot bits p ≡ false
+white_behind bits first begin word white dots none p reached before =
+    elim (cases_lt p (8 * begin)) [
+      | inl early ↦ white p reached early
+      | inr here ↦ white_word bits word (8 * begin) p dots none here (omega (arith, before))
     ]
-  ];
-}
 
-pub ink_before : (stroke : Stroke) (part : Run) (word : ℕ) → HasInkOf stroke part → stroke.mode.source_opaque ≡ false → 64 ≤ part.count
-    → ((j : ℕ) → j < 64 → word_dot word j ≡ row_dot stroke.source.bits.now (part.skip + part.count - 64 + j)) → word ≡ 0
-    → HasInkOf stroke (record part { count = part.count - 64 })
-ink_before stroke part word ink transparent long dots none = record {
-  begun = ink.begun;
-  along = ink.along;
-  within = omega (arith, ink.within, long);
-  white = λ place begun within out. elim (cases_lt place part.first) [
-    | inl before ↦ ink.white place begun within (inl before)
-    | inr reached ↦ elim (cases_lt place (part.first + part.count)) [
-      | inl low ↦
-          let there : stroke.run.skip + (place - stroke.run.first) ≡ part.skip + (place - part.first) = omega (arith, ink.along, begun, reached) in
-          let late : part.first + (part.count - 64) ≤ place = elim out [
-            | inl before ↦ absurd (omega (arith, before, reached))
-            | inr behind ↦ behind
-          ] in
-          (transparent, white_word stroke.source.bits.now word (part.skip + part.count - 64) _ dots none (omega (arith, there, late, long)) (omega (arith, there, low, late, long)))
-      | inr past ↦ ink.white place begun within (inr past)
+-- white dots, and those of a white word before them
+pub white_before : (bits : List ℕ) (last end word : ℕ) → ((p : ℕ) → 8 * last ≤ p → p < 8 * end → row_dot bits p ≡ false) → 8 ≤ last
+    → ((j : ℕ) → j < 64 → word_dot word j ≡ row_dot bits (8 * (last - 8) + j)) → word ≡ 0
+    → (p : ℕ) → 8 * (last - 8) ≤ p → p < 8 * end → row_dot bits p ≡ false
+white_before bits last end word white some dots none p reached before =
+    elim (cases_lt p (8 * last)) [
+      | inl early ↦ white_word bits word (8 * (last - 8)) p dots none reached (omega (arith, early, some))
+      | inr here ↦ white p here before
     ]
-  ];
-}
+
+-- a part whose first dot is that of a run, or a later one of it
+begun_in : (a b c s : ℕ) → a ≤ c → s ≡ min (max a b) c → (a ≤ s) × (s ≤ c)
+begun_in a b c s order is = grind arith
+
+before_part : (a b c s p : ℕ) → s ≡ min (max a b) c → a ≤ p → p < s → p < b
+before_part a b c s p is reached before = grind arith
+
+-- a part that ends in a run
+ended_in : (c e s l : ℕ) → s ≤ c → l ≡ max (min c e) s → (s ≤ l) × (l ≤ c)
+ended_in c e s l order is = grind arith
+
+behind_part : (c e s l p : ℕ) → l ≡ max (min c e) s → l ≤ p → p < c → e ≤ p
+behind_part c e s l p is behind before = grind arith
+
+-- a part of a run, before which and behind which all dots of the source are white
+pub ink_between : (stroke : Stroke) (front rear begin end skip last : ℕ) → stroke.mode.source_opaque ≡ false
+    → 8 * front ≤ stroke.run.skip → stroke.run.skip + stroke.run.count ≤ 8 * rear
+    → ((p : ℕ) → 8 * front ≤ p → p < 8 * begin → row_dot stroke.source.bits.now p ≡ false)
+    → ((p : ℕ) → 8 * end ≤ p → p < 8 * rear → row_dot stroke.source.bits.now p ≡ false)
+    → skip ≡ min (max stroke.run.skip (8 * begin)) (stroke.run.skip + stroke.run.count)
+    → last ≡ max (min (stroke.run.skip + stroke.run.count) (8 * end)) skip
+    → HasInkOf stroke (record { first = stroke.run.first + (skip - stroke.run.skip); skip = skip; count = last - skip })
+ink_between stroke front rear begin end skip last transparent before behind whites_before whites_behind skip_is last_is =
+    let begun = begun_in stroke.run.skip (8 * begin) (stroke.run.skip + stroke.run.count) skip (omega arith) skip_is in
+    let ended = ended_in (stroke.run.skip + stroke.run.count) (8 * end) skip last begun.1 last_is in
+    record {
+      begun = omega arith;
+      along = omega (arith, begun.0);
+      within = omega (arith, begun.0, ended.0, ended.1);
+      white = λ place reached left out.
+          let p : ℕ = stroke.run.skip + (place - stroke.run.first) in (
+            transparent,
+            elim out [
+              | inl early ↦
+                  whites_before p (omega (arith, before))
+                  (before_part stroke.run.skip (8 * begin) (stroke.run.skip + stroke.run.count) skip p skip_is (omega arith) (omega (arith, early, reached, begun.0)))
+              | inr late ↦
+                  whites_behind p
+                  (behind_part (stroke.run.skip + stroke.run.count) (8 * end) skip last p last_is (omega (arith, late, reached, begun.0, ended.0)) (omega (arith, left, reached)))
+                  (omega (arith, left, reached, behind))
+            ],
+          );
+    }
 
 white_stays : (mode : Mode) (tile before : Bool) → mode.source_opaque ≡ false → mixed_dot true mode false tile before ≡ before
 white_stays mode tile before transparent = ap (λ so. mixed_dot true (record mode { source_opaque = so }) false tile before) transparent

@@ -91,6 +91,35 @@ word_dots bits k n j small is within =
     ∙ ap (byte_dot (get_or bits (k + j / 8) 0)) bit
     ∙ row_dot-of_byte bits (k + j / 8) (8 * k + j) (omega arith)
 
+-- the dots of a word of two bytes, and white ones behind them
+pub two_bytes : (bits : List ℕ) (a b n j : ℕ) → a < 256 → b < 256 → a ≡ get_or bits 0 0 → b ≡ get_or bits 1 0
+    → n ≡ from_be_bytes w64 (a ∷ b ∷ 0 ∷ 0 ∷ 0 ∷ 0 ∷ 0 ∷ 0 ∷ []) → j < 16 → word_dot n j ≡ row_dot bits j
+two_bytes bits a b n j first_small second_small first second is within =
+    word_dots two 0 n j fits is (omega (arith, within))
+    ∙ ap (row_dot two) still
+    ∙ elim (cases_lt j 8) [
+      | inl low ↦ sym (row_dot-of_byte two 0 j (omega (arith, low))) ∙ ap (λ byte. byte_dot byte (j % 8)) first ∙ row_dot-of_byte bits 0 j (omega (arith, low))
+      | inr high ↦
+          sym (row_dot-of_byte two 1 j (omega (arith, high, within))) ∙ ap (λ byte. byte_dot byte (j % 8)) second ∙ row_dot-of_byte bits 1 j (omega (arith, high, within))
+    ]
+  where
+    two : List ℕ
+    two = a ∷ b ∷ 0 ∷ 0 ∷ 0 ∷ 0 ∷ 0 ∷ 0 ∷ []
+
+    still : 8 * 0 + j ≡ j
+    still = omega arith
+
+    fits : (m : ℕ) → get_or two m 0 < 256
+    fits zero = first_small
+    fits (suc zero) = second_small
+    fits (suc (suc zero)) = omega arith
+    fits (suc (suc (suc zero))) = omega arith
+    fits (suc (suc (suc (suc zero)))) = omega arith
+    fits (suc (suc (suc (suc (suc zero))))) = omega arith
+    fits (suc (suc (suc (suc (suc (suc zero)))))) = omega arith
+    fits (suc (suc (suc (suc (suc (suc (suc zero))))))) = omega arith
+    fits (suc (suc (suc (suc (suc (suc (suc (suc m)))))))) = omega arith
+
 pub word_dot-zeros : (j : ℕ) → word_dot 0 j ≡ false
 unfolding word_dot
 word_dot-zeros j = ap (λ n. nat_eq n 1) (bit_at-zero (63 - j))

@@ -121,6 +121,7 @@ impl Band {
     }
 
     /// Paints a run of source dots, through a pattern, into the line that begins at a byte.
+    #[inline(always)]
     pub(crate) fn paint(&mut self, line: usize, stroke: &Stroke<'_, '_>)
         requires within { 8 * line + stroke.now.run.first + stroke.now.run.count
             ≤ 8 * length self.old }

@@ -336,6 +336,7 @@ impl Bands {
     ///
     /// Source: PCL 5 Printer Language Technical Reference Manual, The PCL Print Model, and Raster Graphics (the order of the
     /// dots).
+    #[inline(never)]
     pub fn paint_row(&mut self, x: i64, y: i64, source: DotRow<'_>, pattern: DotRow<'_>, mode: Mode)
         requires some { 1 ≤ pattern.dots }
         requires ready { IsWhite (row pattern) ⊎ AreReady self.old y 1 }
@@ -350,6 +351,7 @@ impl Bands {
     /// them.
     ///
     /// Source: PCL 5 Printer Language Technical Reference Manual, The PCL Print Model, and Rectangular Area Fill Graphics.
+    #[inline(never)]
     pub fn ink(&mut self, x: u32, y: u32, dots: u32, pattern: DotRow<'_>, mode: Mode)
         requires narrow { dots ≤ MAX_SIDE }
         requires some { 1 ≤ pattern.dots }
@@ -366,6 +368,7 @@ impl Bands {
     }
 
     /// Paints a row of source dots, which may all be black, through a row of a pattern.
+    #[inline(always)]
     fn paint_dots(
         &mut self,
         x: i64,

@@ -48,6 +48,21 @@ fn mask_word(part: Part) -> u64
     (u64::MAX >> (part.from - start)) & (u64::MAX << (start + 64 - part.to))
 }
 
+/// Sixty-four dots of the source of a stroke, from the one on that lies so many places behind the front of its run, as far as the run goes.
+#[inline(always)]
+fn source_word(stroke: &Stroke<'_, '_>, place: usize) -> u64
+    requires small { stroke.now.run.skip + place < 2 ^ 64 }
+    requires enough { stroke.now.run.skip + stroke.now.run.count ≤ stroke.now.source.dots }
+    ensures { (j : ℕ) → j < 64 → place + j < stroke.now.run.count → word_dot result j
+        ≡ row_dot stroke.now.source.bits.now (stroke.now.run.skip + place + j) }
+{
+    if stroke.ink {
+        alike(true)
+    } else {
+        word_from(stroke.source.bits, stroke.run.skip + place)
+    }
+}
+
 /// Paints the dots of a part of a stroke that lies in the line that begins at byte `line`.
 #[inline(always)]
 fn paint_word(rows: &mut [u8], part: Part, line: usize, stroke: &Stroke<'_, '_>)
@@ -58,12 +73,10 @@ fn paint_word(rows: &mut [u8], part: Part, line: usize, stroke: &Stroke<'_, '_>)
     requires enough { stroke.now.run.skip + stroke.now.run.count ≤ stroke.now.source.dots }
     ensures { IsPaintedFrom rows.old rows.new line stroke.now part.from part.to }
 {
-    let run = stroke.run;
     let shift = part.from - 8 * part.index;
-    let first = run.skip + (part.from - (8 * line + run.first));
-    let dots = word_from(stroke.source.bits, first);
+    let dots = source_word(stroke, part.from - (8 * line + stroke.run.first));
     let through = stroke.through.word(part.from - 8 * line);
-    let before = word_at(rows, part.index);
+    let before = whole_word_at(rows, part.index);
     let mask = mask_word(part);
     let after = mixed_word(before, dots >> shift, through >> shift, mask, stroke.mode);
     put_word(rows, part.index, after);
@@ -332,29 +345,60 @@ fn paint_next(
     from + 64 * words
 }
 
-/// The run of a stroke without the words of white dots at its ends, where white dots of the source are transparent.
+/// The first of the bytes from one on and before another that may have a black dot, looked for by eight at a time.
+#[inline(always)]
+fn begin_of_ink(bits: &[u8], first: usize, end: usize) -> usize
+    requires { end ≤ length bits.now }
+    ensures begun { first ≤ result }
+    ensures white { (p : ℕ) → 8 * first ≤ p → p < 8 * result → row_dot bits.now p ≡ false }
+{
+    let mut begin = first;
+    while end.saturating_sub(begin) >= 8 && whole_word_at(bits, begin) == 0 {
+        begin += 8;
+    }
+    begin
+}
+
+/// Behind the last of the bytes before one that may have a black dot, looked for by eight at a time.
+#[inline(always)]
+fn end_of_ink(bits: &[u8], end: usize) -> usize
+    requires { end ≤ length bits.now }
+    ensures within { result ≤ end }
+    ensures white { (p : ℕ) → 8 * result ≤ p → p < 8 * end → row_dot bits.now p ≡ false }
+{
+    let mut last = end;
+    while last >= 8 && whole_word_at(bits, last - 8) == 0 {
+        last -= 8;
+    }
+    last
+}
+
+/// The run of a stroke without the white bytes of its source at the ends, by eight at a time, where white dots of the source are
+/// transparent.
 fn inked(stroke: &Stroke<'_, '_>) -> Run
     requires small { stroke.now.run.first + stroke.now.run.count < 2 ^ 64 }
     requires enough { stroke.now.run.skip + stroke.now.run.count ≤ stroke.now.source.dots }
     ensures { HasInkOf stroke.now result }
 {
-    let mut run = stroke.run;
+    let run = stroke.run;
     if stroke.ink || stroke.mode.source_opaque {
         return run;
     }
     let bits = stroke.source.bits;
-    while run.count >= 64 && word_from(bits, run.skip) == 0 {
-        run.first += 64;
-        run.skip += 64;
-        run.count -= 64;
+    let back = run.skip + run.count;
+    let end = end_of_ink(bits, back.div_ceil(8));
+    let begin = begin_of_ink(bits, run.skip / 8, end);
+    let skip = run.skip.max(begin.saturating_mul(8)).min(back);
+    let last = back.min(end.saturating_mul(8)).max(skip);
+    Run {
+        first: run.first + (skip - run.skip),
+        skip,
+        count: last - skip,
     }
-    while run.count >= 64 && word_from(bits, run.skip + run.count - 64) == 0 {
-        run.count -= 64;
-    }
-    run
 }
 
 /// Paints dots of a stroke, from dot `first` on and before dot `end`.
+#[inline(always)]
 fn paint_between(rows: &mut [u8], line: usize, stroke: &Stroke<'_, '_>, first: usize, end: usize)
     requires order { first ≤ end }
     requires within { end ≤ 8 * length rows.old }
@@ -372,6 +416,7 @@ fn paint_between(rows: &mut [u8], line: usize, stroke: &Stroke<'_, '_>, first: u
 }
 
 /// Paints a run of source dots, through a pattern, into the line that begins at byte `line`.
+#[inline(always)]
 pub(crate) fn paint_across(rows: &mut [u8], line: usize, stroke: &Stroke<'_, '_>)
     requires within { 8 * line + stroke.now.run.first + stroke.now.run.count ≤ 8 * length rows.old }
     requires long { 8 ≤ length rows.old }

@@ -2,11 +2,33 @@
 #![tactic(auto)]
 
 ghost use Rattle.std.specs.Prelude.{◌≡◌, ℕ, ◌+◌, ◌%◌, ◌<◌, ◌≤◌, ◌*◌, true, IfSome};
-ghost use Rattle.press_bits.specs.Mark.{IsBlack, row, repeated};
+ghost use Rattle.press_bits.specs.Mark.{IsBlack, row, row_dot, repeated};
 ghost use Rattle.press_bits.specs.Words.{word_dot};
 
+use crate::dot_bytes::byte_at;
 use crate::dot_row::DotRow;
 use crate::word::{joined, word_at, word_from};
+
+/// A word that begins with the dots of a pattern, as far as it has so many.
+#[inline(always)]
+fn front_word(pattern: DotRow<'_>) -> u64
+    ensures { (j : ℕ) → j < 64 → j < (row pattern.entry).dots
+        → word_dot result j ≡ row_dot (row pattern.entry).bits j }
+{
+    if pattern.dots > 16 {
+        return word_at(pattern.bits, 0);
+    }
+    u64::from_be_bytes([
+        byte_at(pattern.bits, 0),
+        byte_at(pattern.bits, 1),
+        0,
+        0,
+        0,
+        0,
+        0,
+        0,
+    ])
+}
 
 /// A pattern that is repeated along a line, and its first sixty-four dots.
 #[derive(Clone, Copy)]
@@ -26,7 +48,7 @@ impl<'p> Repeats<'p> {
         requires { 1 ≤ pattern.dots }
         ensures { result.pattern ≡ pattern.entry }
     {
-        let mut prefix = word_at(pattern.bits, 0);
+        let mut prefix = front_word(pattern);
         let mut known = pattern.dots;
         while known < 64 {
             prefix = joined(prefix, known, prefix);

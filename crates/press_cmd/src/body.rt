@@ -48,6 +48,7 @@ impl Body {
     }
 
     /// Gives the first of the commands that are left, if one is left.
+    #[inline(always)]
     pub fn next(&mut self) -> Option<Command<'_>>
         ensures given { option_map token result ≡ slice_get self.old 0 }
         ensures* left { sem 𝓛 (KeepsBehindFirst self.entry) }

@@ -1,7 +1,8 @@
 //! The page environment, one setter for each command (PCL 5 Printer Language Technical Reference Manual, the print
 //! environment and Page Control Commands).
 
-ghost use Rattle.std.specs.Prelude.{◌≡◌, ◌<◌, ◌^◌, ◌+ℤ◌, pos, int_lt, unsigned_abs};
+ghost use Rattle.std.specs.Prelude.{◌≡◌, ◌<◌, ◌/◌, ◌^◌, ◌+ℤ◌, pos, int_lt, unsigned_abs};
+ghost use Rattle.press_units.specs.Position.{positions_per_dot};
 
 use crate::defaults::Defaults;
 use crate::margins::{
@@ -15,7 +16,7 @@ use crate::settings::{
     line_spacing_of, line_termination_of, measure_of, skip_change_of, vertical_motion_of,
 };
 use press_cursor::{CursorPosition, LogicalPage};
-use press_units::Value;
+use press_units::{Resolution, Value};
 
 /// The page environment. A setter takes the value of its command; a value that the command does not know changes
 /// nothing.
@@ -40,6 +41,16 @@ fn passes(limit: i64, y: i64, distance: u16) -> bool
     ensures { result ≡ int_lt limit (y +ℤ pos distance) }
 {
     limit < y + i64::from(distance)
+}
+
+/// How many whole dots of a page a distance in positions is.
+fn whole_dots(distance: u32, resolution: Resolution) -> u32
+    ensures { result ≡ distance / positions_per_dot resolution }
+{
+    match resolution {
+        Resolution::Dpi300 => distance / 24,
+        Resolution::Dpi600 => distance / 12,
+    }
 }
 
 impl PageEnv {
@@ -86,7 +97,7 @@ impl PageEnv {
     {
         let resolution = self.page_setup.resolution;
         CursorDot {
-            x: self.page_setup.offset() + cursor.x / u32::from(resolution.positions_per_dot()),
+            x: self.page_setup.offset() + whole_dots(cursor.x, resolution),
             y: cursor_line(cursor.y, self.margins.top, resolution),
         }
     }

@@ -7,11 +7,11 @@ use Rattle.press_bits.proofs.LineLemmas.{row_dot-slice}
 use Rattle.press_pattern.specs.Tiling.{Tiling, IsWhiteTile, tile_row, tile_dot}
 
 -- the line that a slice of the rows is
-pub tile_row-slice : (t : Tiling) (y h b : ℕ) → h ≡ t.height → b ≡ bytes_per_line t.width
-    → take (y % h * b + b - y % h * b) (drop (y % h * b) t.rows) ≡ tile_row t y
+pub tile_row-slice : (t : Tiling) (y line b : ℕ) → line ≡ y % t.height → b ≡ bytes_per_line t.width
+    → take (line * b + b - line * b) (drop (line * b) t.rows) ≡ tile_row t y
 unfolding tile_row
-tile_row-slice t y h b is_h is_b = λ i.
-    let n = y % is_h i * is_b i in take (n + is_b i - n) (drop n t.rows)
+tile_row-slice t y line b is_line is_b = λ i.
+    let n = is_line i * is_b i in take (n + is_b i - n) (drop n t.rows)
 
 -- a tile of whose lines no bit is set
 pub white_tile : (t : Tiling) → 1 ≤ t.width → ((i : ℕ) → row_dot t.rows i ≡ false) → IsWhiteTile t

@@ -1,6 +1,6 @@
 //! Tiles, lent and owned.
 
-ghost use Rattle.std.specs.Prelude.{◌≡◌, ◌*◌, ◌≤◌, length, IfOk, IsTrue};
+ghost use Rattle.std.specs.Prelude.{◌≡◌, ◌%◌, ◌*◌, ◌≤◌, length, IfOk, IsTrue};
 ghost use Rattle.press_bits.specs.Lines.{bytes_per_line};
 ghost use Rattle.press_pattern.specs.Solid.{solid_black};
 ghost use Rattle.press_bits.specs.Mark.{row};
@@ -10,6 +10,20 @@ use press_bits::{DotRow, line_bytes};
 use press_store::Duplicate;
 use std::alloc::{AllocError, Global};
 use std::marker::Model;
+
+/// The line for line `y` of the frame of a tile of so many lines. Those of the patterns that always exist are not divided by a number
+/// that varies.
+fn line_of(y: u32, height: u16) -> u32
+    requires { 1 ≤ height }
+    ensures { result ≡ y % height }
+{
+    match height {
+        1 => 0,
+        8 => y % 8,
+        16 => y % 16,
+        _ => y % u32::from(height),
+    }
+}
 
 /// A tile, lent: what a pattern repeats over the page. Contracts see its width and height in dots, and
 /// the bytes of its lines.
@@ -73,7 +87,7 @@ impl<'a> Tile<'a> {
         ensures long { length result.now ≡ bytes_per_line self.now.width }
     {
         let bytes = line_bytes(usize::from(self.width));
-        let start = (y % u32::from(self.height)) as usize * bytes;
+        let start = line_of(y, self.height) as usize * bytes;
         &self.rows[start..start + bytes]
     }
 

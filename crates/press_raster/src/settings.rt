@@ -85,7 +85,15 @@ impl RasterResolution {
         ensures size { result ≡ dot_size self print }
         ensures most { result ≤ 8 }
     {
-        u32::from(print.dots_per_inch() / self.dots_per_inch())
+        let dots = u32::from(print.dots_per_inch());
+        match self {
+            RasterResolution::Dpi75 => dots / 75,
+            RasterResolution::Dpi100 => dots / 100,
+            RasterResolution::Dpi150 => dots / 150,
+            RasterResolution::Dpi200 => dots / 200,
+            RasterResolution::Dpi300 => dots / 300,
+            RasterResolution::Dpi600 => dots / 600,
+        }
     }
 }
 

@@ -134,6 +134,12 @@ impl UnitOfMeasure {
     pub fn unit(self) -> Unit
         ensures { result.positions ≡ pcl_unit self }
     {
+        // the unit that most streams have is not divided
+        if self.units_per_inch == 300 {
+            return Unit {
+                positions: POSITIONS_PER_INCH / 300,
+            };
+        }
         Unit {
             positions: POSITIONS_PER_INCH / self.units_per_inch,
         }
@@ -162,7 +168,8 @@ pub fn to_pos(value: Value, unit: Unit) -> Pos
 pub fn dot(position: Pos, resolution: Resolution) -> i64
     ensures { result ≡ dot_of position.0 resolution }
 {
-    position
-        .0
-        .div_euclid(i64::from(resolution.positions_per_dot()))
+    match resolution {
+        Resolution::Dpi300 => position.0.div_euclid(24),
+        Resolution::Dpi600 => position.0.div_euclid(12),
+    }
 }

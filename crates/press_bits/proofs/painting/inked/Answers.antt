@@ -1,13 +1,8 @@
-use Rattle.std.proofs.Common.{rules}
-use Rattle.press_bits.proofs.InkLemmas.{ink_before, ink_behind}
+use Rattle.std.proofs.Common.{◌/◌, arith, rules}
+use Rattle.press_bits.proofs.InkLemmas.{ink_between}
 use Rattle.press_bits.proofs.painting.inked.Goals as goal
 
-pub loop-run-preserved : goal.loop-run-preserved
-loop-run-preserved c =
-    ink_behind c.args.stroke.now c.loop-run.run c.word_from.result c.loop-run.invariant c.if-stroke-2.false c.loop-run-test.true
-    c.word_from.ensures (search rules)
-
-pub loop-run-2-preserved : goal.loop-run-2-preserved
-loop-run-2-preserved c =
-    ink_before c.args.stroke.now c.loop-run-2.run c.word_from-in-loop-run-2.result c.loop-run-2.invariant c.if-stroke-2.false c.loop-run-2-test.true
-    c.word_from-in-loop-run-2.ensures (search rules)
+pub returns : goal.returns
+returns c =
+    ink_between c.args.stroke.now (c.args.stroke.now.run.skip / 8) c.div_ceil.result c.begin_of_ink-begin.result c.end_of_ink-end.result _ _
+    (search rules) (omega arith) (omega arith) c.begin_of_ink-begin.ensures.white c.end_of_ink-end.ensures.white (grind arith) (grind arith)

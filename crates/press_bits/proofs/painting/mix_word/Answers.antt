@@ -19,7 +19,7 @@ returns c =
     (λ p. repeated (row c.args.stroke.now.through.pattern) (p - 8 * c.args.line))
     c.args.index (8 * c.args.index) (8 * c.args.index + 64) c.args.dots c.args.through c.mask_word-mask.result c.whole_word_at-before.result c.mixed_word-after.result
     (omega arith) (omega arith)
-    (λ j within. c.requires.dots j within ∙ ap (row_dot c.args.stroke.now.source.bits.now) (omega arith))
+    (λ j within _. c.requires.dots j within ∙ ap (row_dot c.args.stroke.now.source.bits.now) (omega arith))
     (λ j within. c.requires.through j within ∙ ap (repeated (row c.args.stroke.now.through.pattern)) (omega arith))
     c.mask_word-mask.ensures c.whole_word_at-before.ensures.dots
     (λ j within. c.mixed_word-after.ensures j within

@@ -8,8 +8,8 @@ returns c =
     painted_word c.args.rows.now c.put_word.new.rows c.args.stroke.now.mode
     (λ p. row_dot c.args.stroke.now.source.bits.now (c.args.stroke.now.run.skip + (p - (8 * c.args.line + c.args.stroke.now.run.first))))
     (λ p. repeated (row c.args.stroke.now.through.pattern) (p - 8 * c.args.line))
-    c.args.part.index c.args.part.from c.args.part.to c.word_from-dots.result c.word-through.result c.mask_word-mask.result c.word_at-before.result c.mixed_word-after.result
+    c.args.part.index c.args.part.from c.args.part.to c.source_word-dots.result c.word-through.result c.mask_word-mask.result c.whole_word_at-before.result c.mixed_word-after.result
     c.args.part.begun c.args.part.within
-    (λ j within. c.word_from-dots.ensures j within ∙ ap (row_dot c.args.stroke.now.source.bits.now) (omega arith))
+    (λ j within left. c.source_word-dots.ensures j within (omega (arith, left, c.requires.left)) ∙ ap (row_dot c.args.stroke.now.source.bits.now) (omega arith))
     (λ j within. c.word-through.ensures j within ∙ ap (repeated (row c.args.stroke.now.through.pattern)) (omega arith))
-    c.mask_word-mask.ensures c.word_at-before.ensures.dots c.mixed_word-after.ensures c.put_word.ensures.here c.put_word.ensures.elsewhere
+    c.mask_word-mask.ensures c.whole_word_at-before.ensures.dots c.mixed_word-after.ensures c.put_word.ensures.here c.put_word.ensures.elsewhere

@@ -1,6 +1,6 @@
-use Rattle.std.proofs.Common.{◌-◌, inl, inr, ap, ◌∙◌, arith}
+use Rattle.std.proofs.Common.{◌-◌, inl, inr, ◌∙◌, arith}
 use Rattle.std.proofs.lemmas.Bool.{cases_lt}
-use Rattle.press_bits.specs.Mark.{row, row_dot}
+use Rattle.press_bits.specs.Mark.{row}
 use Rattle.press_bits.proofs.RepeatLemmas.{repeated-first, IsPeriod-dots, IsPeriod-twice, behind}
 use Rattle.press_bits.proofs.repeats.Repeats.of.Goals as goal
 
@@ -8,7 +8,7 @@ pub loop-known-init : goal.loop-known-init
 loop-known-init c = record {
   some = c.requires;
   period = IsPeriod-dots (row c.args.pattern);
-  dots = λ j within before. c.word_at-prefix.ensures.dots j within ∙ ap (row_dot c.args.pattern.bits.now) (omega arith) ∙ repeated-first (row c.args.pattern) j before;
+  dots = λ j within before. c.front_word-prefix.ensures j within before ∙ repeated-first (row c.args.pattern) j before;
 }
 
 pub loop-known-preserved : goal.loop-known-preserved

@@ -6,6 +6,6 @@ use Rattle.press_pattern.proofs.tile.Tile.row.Goals as goal
 
 pub returns-clause-row : goal.returns-clause-row
 returns-clause-row c =
-    tile_row-slice (record { width = c.self.inside.width; height = c.self.inside.height; rows = c.self.inside.rows.now }) c.args.y c.from-2.result c.line_bytes-bytes.result
-    c.from-2.ensures (c.line_bytes-bytes.ensures ∙ ap bytes_per_line c.from.ensures)
+    tile_row-slice (record { width = c.self.inside.width; height = c.self.inside.height; rows = c.self.inside.rows.now }) c.args.y c.line_of.result c.line_bytes-bytes.result
+    c.line_of.ensures (c.line_bytes-bytes.ensures ∙ ap bytes_per_line c.from.ensures)
     ∙ ap (λ t. tile_row t c.args.y) c.self.view_is
