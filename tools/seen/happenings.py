@@ -217,15 +217,16 @@ class Marks(Open):
 class Run:
     """What a stream does: its happenings, one after another, and its sheets; all is known when they were asked for to the end. What stands in front
     of it sets the defaults. `watch` is handed each line, before the page goes on by it, with the step that it is of; of bytes that are passed over at
-    once the last line alone, without a step. One that has a `row` is handed rows within raster graphics by it, without a line."""
+    once the last line alone, without a step. One that has a `row` is handed rows within raster graphics by it, without a line. `texts` are its lines,
+    with runs, where somebody has them."""
 
-    def __init__(self, stream, front=b"", chosen=program.PROGRAM, watch=None):
+    def __init__(self, stream, front=b"", chosen=program.PROGRAM, watch=None, texts=None):
         self.watch, self.watch_row = watch, getattr(watch, "row", None)
         self.stream = stream
         self.whole = front + stream
         self.chosen = chosen
         self.who = traced.who(chosen)
-        self.texts, self.text = traced.texts(self.whole, chosen, runs=watch is None), None
+        self.texts, self.text = texts or traced.texts(self.whole, chosen, runs=watch is None), None
         self.fields = Fields()
         self.follower = Follower(self.fields.go_on(power_on(chosen)), row_of)
         self.leaves, self.marks, self.watcher = Leaves(), Marks(), sent.Watcher()
