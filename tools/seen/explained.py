@@ -46,12 +46,24 @@ def bytes_of(placed, stream):
 
 def rows(run, judge=None, see=None):
     """The rows of a run, one after another, without the exit that is added at the end. `see` is handed each happening with the reason that it met."""
+    for part in parts(run, judge, see):
+        if type(part) is list:
+            yield from map(row_of_transfer, part)
+        else:
+            yield part
+
+
+def parts(run, judge=None, see=None):
+    """The same, but of rows within raster graphics of which nothing is to be said but what they do these themselves, as many as stand together."""
     judge, some, key, because, met = judge or Judge(run), [], None, "", None
     for happening, each in judge.judged(in_order=True):
         if see:
             see(happening, each)
-        if each is None and not some and type(happening) is happenings.Row:
-            yield row_of_transfer(happening)
+        if each is None and type(happening) is happenings.Row:
+            if some:
+                yield row_of(run, some, because, met)
+                some = []
+            yield happening.others or [happening]
             continue
         why = each[0].because(judge, happening) if each else ""
         own = run_of(happening, why)
@@ -69,8 +81,11 @@ def rows(run, judge=None, see=None):
 
 def row_of_transfer(row):
     """The row of a row within raster graphics of which nothing is to be said but what it does."""
-    text = f"par *b{row.field.decode()}W {digits_of(row.data)}".rstrip()
-    return Row(row.offset, text, remarks.remark_of_row(row), [row], None, "")
+    return Row(row.offset, text_of_transfer(row), remarks.remark_of_row(row), [row], None, "")
+
+
+def text_of_transfer(row):
+    return f"par *b{row.field.decode()}W {digits_of(row.data)}".rstrip()
 
 
 def row_of(run, some, because, met):

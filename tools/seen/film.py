@@ -15,7 +15,7 @@ from . import program, traced
 from .bodies import Body, Follower, Placed, Step
 from .fields import Fields, Now, power_on
 from .opened import Opened
-from .patches import BETWEEN, Page
+from .patches import Page, rows_of
 from .placing import Placer, row_of
 from .sent import letters
 
@@ -386,7 +386,7 @@ class Film:
             if (began := OPENED.search(text)) is not None and page is None:
                 page = Page(int(began[1]), int(began[2]))
             if (patch := PATCH.search(text)) is not None and patch[1] is None and page is not None:
-                page.lay_rows(int(patch[3]) // 8, int(patch[4]), map(bytes.fromhex, patch[2].decode().split(BETWEEN)))
+                page.lay_rows(int(patch[3]) // 8, int(patch[4]), rows_of(patch[2]))
         return page
 
     def dot(self, count, x, y):

@@ -16,7 +16,7 @@ import zlib
 from reasons import streams
 
 from . import happenings, png, remarks, sides
-from .explained import END, rows
+from .explained import END, parts, text_of_transfer
 
 ROWS_IN_CHUNK, ENTRIES_IN_CHUNK, BYTES_IN_CHUNK = 500, 500, 1 << 20
 LEVEL = 4
@@ -29,6 +29,7 @@ NONE = -1
 
 
 as_json = json.JSONEncoder(separators=(",", ":")).encode
+as_text = json.JSONEncoder(separators=(",", ":"), ensure_ascii=False).encode
 
 
 def packed(data):
@@ -45,10 +46,10 @@ def column(numbers):
 
 
 def chunked(items, size):
-    """Values as chunks of JSON; they are taken one after another."""
+    """Values that are spelled as JSON as chunks of it; they are taken one after another."""
     items = iter(items)
     while some := list(itertools.islice(items, size)):
-        yield packed(json.dumps(some, ensure_ascii=False, separators=(",", ":")).encode())
+        yield packed(f"[{','.join(some)}]".encode())
 
 
 class FilmPage:
@@ -87,37 +88,55 @@ class Recorder:
     """Watches a run, and keeps what the page shows of each entry."""
 
     def __init__(self):
-        self.numbers = array.array("i")     # of each entry those of its columns
+        self.columns = {name: array.array("i") for name in COLUMNS}     # of each entry a number of each
         self.flags, self.pages, self.replies, self.fields, self.part = bytearray(), [], [], [], []
+        self.waiting, self.view = [], None     # rows within raster graphics, with step and whether they are counted, and the fields about them
         self.stacks = {}
         self.film_of = {}     # the page of the film, by its number among those that closed
         self.open = None
 
     def __call__(self, run, line, step):
+        self.keep_rows()
         entry, now = len(self.flags), run.fields.now
         self.follow_page(run, line, entry)
         stack = tuple((body.name(), body.starter.offset) for body in step.stack) if step else ()
-        self.keep_columns(line["step"], now, step.placed.offset if stack else NONE, self.stacks.setdefault(stack, len(self.stacks)))
+        self.keep_columns([line["step"]], [now], step.placed.offset if stack else NONE, stack)
         self.flags.append(line["depth"] + 8 * ("delivered" in line) + 16 * ("reply" in line) + 32 * ("recorded" in line))
         if "reply" in line:
             self.replies.append([entry, remarks.readable(line["reply"].encode("latin-1"), 400)])
-        self.keep_fields(run, as_json(line.get("view", 0)))
+        self.keep_fields(run.fields.whole_view(), as_json(line.get("view", 0)))
 
     def row(self, run, step, row, is_counted):
-        """The same of a row within raster graphics."""
-        if row.patch:
-            self.open.add(len(self.flags), row.patch.left, row.patch.top, row.patch.rows())
-        self.keep_columns(step, row.now, NONE, self.stacks.setdefault((), len(self.stacks)))
-        self.flags.append(0)
-        self.keep_fields(run, '{"raster":{"rows":%d}}' % row.now.row_count if is_counted else "0")
+        """The same of a row within raster graphics; it waits for those behind it."""
+        if not self.waiting:
+            self.view = dict(run.fields.view)
+        self.waiting.append((step, row, is_counted))
+        if len(self.waiting) == ROWS_IN_CHUNK:
+            self.keep_rows()
 
-    def keep_columns(self, step, now, own, stack):
-        across, down = happenings.cursor_dot(now)
-        self.numbers.extend((step, now.x, now.y, across, down, own, stack, NONE if self.open is None else len(self.pages) - 1, now.total))
+    def keep_rows(self):
+        """The rows that waited: nothing but the page, the cursor and their number changed by them."""
+        if not self.waiting:
+            return
+        waiting, self.waiting, first = self.waiting, [], len(self.flags)
+        for entry, (_, row, _) in enumerate(waiting, first):
+            if row.patch is not None:
+                self.open.add(entry, row.patch.left, row.patch.top, row.patch.rows())
+        self.keep_columns([step for step, _, _ in waiting], [row.now for _, row, _ in waiting], NONE, ())
+        self.flags += bytes(len(waiting))
+        for _, row, is_counted in waiting:
+            count = row.now.row_count
+            view = None if self.part else {**self.view, "raster": {**self.view["raster"], "rows": count}}
+            self.keep_fields(view, '{"raster":{"rows":%d}}' % count if is_counted else "0")
 
-    def columns(self):
-        """The numbers of all entries, by what they tell."""
-        return {name: self.numbers[place::len(COLUMNS)] for place, name in enumerate(COLUMNS)}
+    def keep_columns(self, steps, nows, own, stack):
+        """Numbers of entries that have the same base and the same bodies."""
+        dots, count = happenings.cursor_dots(nows), len(nows)
+        same = own, self.stacks.setdefault(stack, len(self.stacks)), NONE if self.open is None else len(self.pages) - 1
+        told = (steps, [now.x for now in nows], [now.y for now in nows], [across for across, _ in dots], [down for _, down in dots],
+                *([each] * count for each in same), [now.total for now in nows])
+        for column, numbers in zip(self.columns.values(), told):
+            column.extend(numbers)
 
     def follow_page(self, run, line, entry):
         patch = line.get("page", ())
@@ -131,10 +150,10 @@ class Recorder:
         elif patch:
             self.open.add(entry, patch["x"] // 8, patch["y"], [bytes.fromhex(row) for row in patch["rows"]])
 
-    def keep_fields(self, run, view):
+    def keep_fields(self, whole, view):
         """What changed, as JSON; a chunk begins with all fields."""
         if not self.part:
-            self.part.append(as_json(run.fields.whole_view()))
+            self.part.append(as_json(whole))
         self.part.append(view)
         if len(self.part) > ENTRIES_IN_CHUNK:
             self.end_fields()
@@ -145,6 +164,7 @@ class Recorder:
             self.part = []
 
     def end(self):
+        self.keep_rows()
         self.end_fields()
         if self.open is not None:
             self.open.end()
@@ -170,18 +190,24 @@ class Listing:
         self.seen.add(happening, met)
 
     def texts(self):
-        """Of each row, and of the end: text, place, how it is spelled, what it is, its effect, flags, and why it leaves no trace, in a few words."""
-        for row in rows(self.run, self.seen.judge, self.see):
-            place, spelled, what, effect = row.told
-            if row.met is None and type(row.happenings[0]) is happenings.Row:
-                self.note(row.offset, 1)
-                yield [shortened(row.text), place, spelled, what, effect, 0, ""]
+        """Of each row, and of the end, as JSON: text, place, how it is spelled, what it is, its effect, flags, and why it leaves no trace, in a few words."""
+        for row in parts(self.run, self.seen.judge, self.see):
+            if type(row) is list:
+                yield from self.transfers(row)
                 continue
+            place, spelled, what, effect = row.told
             self.note(row.offset, sum(1 + each.bodies for each in row.happenings))
             effect = shortened(cause_first(effect, row.because) if row.because else effect, LONGEST_REMARK)
-            yield [shortened(row.text), place, shortened(spelled, LONGEST_REMARK), shortened(what, LONGEST_REMARK), effect, flags_of(row), cause_of(row.met)]
+            yield as_text([shortened(row.text), place, shortened(spelled, LONGEST_REMARK), shortened(what, LONGEST_REMARK), effect, flags_of(row), cause_of(row.met)])
         self.note(len(self.run.stream), 1)
-        yield ["uel", str(len(self.run.stream)), "", END, remarks.effect_of(self.run.end), flags_of_end(self.run), ""]
+        yield as_text(["uel", str(len(self.run.stream)), "", END, remarks.effect_of(self.run.end), flags_of_end(self.run), ""])
+
+    def transfers(self, some):
+        """Those of rows within raster graphics, in whose texts nothing has to be escaped."""
+        for row in some:
+            self.note(row.offset, 1)
+            spelled, what = remarks.row_named(row.field)
+            yield f'["{shortened(text_of_transfer(row))}","{row.offset}","{spelled}","{what}","{remarks.effect_of_row(row)}",0,""]'
 
     def row_of(self, place):
         """The row in which a byte of the stream stands."""
@@ -257,7 +283,7 @@ def data_of(stream, front, chosen, name):
     texts = list(chunked(listed.texts(), ROWS_IN_CHUNK))
     recorder.end()
     findings = list(listed.findings(name))
-    starts, columns = listed.starts, recorder.columns()
+    starts, columns = listed.starts, recorder.columns
     columns["own"] = [NONE if offset < 0 else bisect.bisect_right(starts, offset) - 1 for offset in columns["own"]]
     printed = [side_value(run, recorder, number, data, each)
                for number, (data, each) in enumerate(zip(sides.packed_sides(run), listed.seen.sides.found))]
