@@ -11,8 +11,8 @@ from model import commands, pages
 from model.values import dot_positions
 
 from . import program, sent, traced
-from .bodies import Follower, Placed
-from .fields import Fields, changes, power_on
+from .bodies import Follower, Placed, Step
+from .fields import Fields, Now, changes, power_on
 from .leaves import Leaves
 from .patches import BETWEEN, Open, Page, Patch
 from .placing import Placer, row_of
@@ -126,7 +126,7 @@ class Row:
     def __init__(self, offset, length, field, data, before, now, page, gone, patch):
         self.offset, self.length, self.field, self.data = offset, length, field, data
         self.before, self.now, self.page, self.sent, self.patch, self.marked, self.read = before, now, page, gone, patch, None, None
-        self.others = None     # the rows that it stands for, itself one of them
+        self.others = None     # the rows that it stands for
 
     @property
     def placed(self):
@@ -169,10 +169,11 @@ class Row:
 
 
 def joined(some):
-    """Rows that come out whole one behind the other as one: the last that marks, or the first where none does."""
+    """Rows that come out whole one behind the other as one: as the last that marks, or the first where none does."""
     held = next((row for row in reversed(some) if row.patch is not None), some[0])
-    held.sent, held.others = sent.Sent(len(some)), some
-    return held
+    one = Row(held.offset, held.length, held.field, held.data, held.before, held.now, held.page, sent.Sent(len(some)), held.patch)
+    one.others = some
+    return one
 
 
 def of_step(line, step, page, patch=None):
@@ -356,7 +357,9 @@ class Run:
         if rows is not None:
             patch = self.marks.page.lay_later(int(left) // 8, int(top), rows)
         gone = self.watcher.of_rows(before, data, rows is not None)
-        now = fields.go_on_row(int(x), int(y), int(sheets), count and int(count))
+        if count is not None:
+            fields.is_late = True
+        now = fields.now = Now(before.base, int(x), int(y), int(sheets), before.row_count if count is None else int(count))
         row = Row(place - self.placer.shift, size, field[1], data, before, now, self.leaves.closed, gone, patch)
         if self.watch_row:
             self.watch_row(self, int(step), row, count is not None)
@@ -368,9 +371,9 @@ class Run:
         self.follower.fields, self.placer.before, self.row_read = self.fields.now, ("par *bW", self.whole[place:begins]), None
 
     def is_quiet(self):
-        """Whether a command is carried out by itself: in no body, definition, or HP-GL/2; and nobody watches."""
+        """Whether a command is carried out by itself: in no body, definition, or HP-GL/2."""
         base = self.fields.now.base
-        return self.watch is None and not self.follower.bodies and base.get("defining", 0) is None and not base["hpgl"]
+        return not self.follower.bodies and base.get("defining", 0) is None and not base["hpgl"]
 
     def carry_out_plain(self, line, placed):
         """Goes on by a command that does no more than set fields."""
@@ -378,8 +381,12 @@ class Run:
         self.follower.fields = now
         if line["last"] != commands.kind(placed.command):
             raise ValueError(f"step {line['step']} takes {line['last']}, and {commands.kind(placed.command)} stands at {placed.offset}")
-        return Happening(placed, (row := row_of(placed.command)) and row.name, "row" if row else "no row", None, changes(before, now), (), 0, (), b"", 0,
-                         self.leaves.closed, 0, now.base["resolution"], before, sent.NOTHING, True)
+        row = row_of(placed.command)
+        how = "row" if row else "no row"
+        if self.watch:
+            self.watch(self, line, Step(placed, (), how, None, before, now))
+        return Happening(placed, row and row.name, how, None, changes(before, now), (), 0, (), b"", 0, self.leaves.closed, 0, now.base["resolution"], before,
+                         sent.NOTHING, True)
 
     def carry_out(self, line, placed):
         """Goes on by a command of the stream, and by the bodies that it starts."""
@@ -443,13 +450,16 @@ def cursor_dot(now):
 
 
 def cursor_dots(some):
-    """That of each of these fields, which have the same base."""
-    base = some[0].base
-    offset, positions, size = frame_at(base["size"], base["resolution"], base["orientation"])
-    top, orientation = base["top_margin"], base["orientation"]
-    if orientation == pages.PORTRAIT:
-        return [(offset + now.x // positions, (now.y + top) // positions) for now in some]
-    return [pages.to_physical(size, orientation, offset + now.x // positions, (now.y + top) // positions) for now in some]
+    """That of each of these fields."""
+    dots, base = [], None
+    for now in some:
+        if now.base is not base:
+            base = now.base
+            top, orientation = base["top_margin"], base["orientation"]
+            offset, positions, size = frame_at(base["size"], base["resolution"], orientation)
+        dot = offset + now.x // positions, (now.y + top) // positions
+        dots.append(dot if orientation == pages.PORTRAIT else pages.to_physical(size, orientation, *dot))
+    return dots
 
 
 @functools.lru_cache(maxsize=64)

@@ -26,6 +26,7 @@ IGNORED, SENDS, REPLIES, WRONG = 1, 2, 4, 8
 MOST_PICTURES = 500
 COLUMNS = ("step", "x", "y", "across", "down", "own", "stack", "page", "sheets")
 NONE = -1
+NOTHING_RUNS = ()
 
 
 as_json = json.JSONEncoder(separators=(",", ":")).encode
@@ -71,7 +72,7 @@ class FilmPage:
 
     def close(self, entry, page):
         """It closes in this entry; of its rows a hash is kept."""
-        self.last, self.hashes = entry, [hash(row) for row in page.rows]
+        self.last, self.hashes = entry, array.array("q", map(hash, page.rows))
         self.end()
 
     def end(self):
@@ -90,53 +91,45 @@ class Recorder:
     def __init__(self):
         self.columns = {name: array.array("i") for name in COLUMNS}     # of each entry a number of each
         self.flags, self.pages, self.replies, self.fields, self.part = bytearray(), [], [], [], []
-        self.waiting, self.view = [], None     # rows within raster graphics, with step and whether they are counted, and the fields about them
+        self.waiting = []     # entries whose numbers are not in the columns yet
         self.stacks = {}
         self.film_of = {}     # the page of the film, by its number among those that closed
         self.open = None
 
     def __call__(self, run, line, step):
-        self.keep_rows()
-        entry, now = len(self.flags), run.fields.now
+        entry, stack = len(self.flags), NOTHING_RUNS
         self.follow_page(run, line, entry)
-        stack = tuple((body.name(), body.starter.offset) for body in step.stack) if step else ()
-        self.keep_columns([line["step"]], [now], step.placed.offset if stack else NONE, stack)
+        if step and step.stack:
+            stack = tuple((body.name(), body.starter.offset) for body in step.stack)
+        self.keep(line["step"], run.fields.now, step.placed.offset if stack else NONE, stack)
         self.flags.append(line["depth"] + 8 * ("delivered" in line) + 16 * ("reply" in line) + 32 * ("recorded" in line))
         if "reply" in line:
             self.replies.append([entry, remarks.readable(line["reply"].encode("latin-1"), 400)])
-        self.keep_fields(run.fields.whole_view(), as_json(line.get("view", 0)))
+        self.keep_fields(run, as_json(line["view"]) if "view" in line else "0")
 
     def row(self, run, step, row, is_counted):
-        """The same of a row within raster graphics; it waits for those behind it."""
-        if not self.waiting:
-            self.view = dict(run.fields.view)
-        self.waiting.append((step, row, is_counted))
-        if len(self.waiting) == ROWS_IN_CHUNK:
-            self.keep_rows()
+        """The same of a row within raster graphics."""
+        if row.patch is not None:
+            self.open.add(len(self.flags), row.patch.left, row.patch.top, row.patch.rows())
+        self.keep(step, row.now, NONE, NOTHING_RUNS)
+        self.flags.append(0)
+        self.keep_fields(run, '{"raster":{"rows":%d}}' % row.now.row_count if is_counted else "0")
 
-    def keep_rows(self):
-        """The rows that waited: nothing but the page, the cursor and their number changed by them."""
-        if not self.waiting:
-            return
-        waiting, self.waiting, first = self.waiting, [], len(self.flags)
-        for entry, (_, row, _) in enumerate(waiting, first):
-            if row.patch is not None:
-                self.open.add(entry, row.patch.left, row.patch.top, row.patch.rows())
-        self.keep_columns([step for step, _, _ in waiting], [row.now for _, row, _ in waiting], NONE, ())
-        self.flags += bytes(len(waiting))
-        for _, row, is_counted in waiting:
-            count = row.now.row_count
-            view = None if self.part else {**self.view, "raster": {**self.view["raster"], "rows": count}}
-            self.keep_fields(view, '{"raster":{"rows":%d}}' % count if is_counted else "0")
+    def keep(self, step, now, own, stack):
+        if stack not in self.stacks:
+            self.stacks[stack] = len(self.stacks)
+        self.waiting.append((step, now, own, self.stacks[stack], NONE if self.open is None else len(self.pages) - 1))
+        if len(self.waiting) == ENTRIES_IN_CHUNK:
+            self.keep_columns()
 
-    def keep_columns(self, steps, nows, own, stack):
-        """Numbers of entries that have the same base and the same bodies."""
-        dots, count = happenings.cursor_dots(nows), len(nows)
-        same = own, self.stacks.setdefault(stack, len(self.stacks)), NONE if self.open is None else len(self.pages) - 1
-        told = (steps, [now.x for now in nows], [now.y for now in nows], [across for across, _ in dots], [down for _, down in dots],
-                *([each] * count for each in same), [now.total for now in nows])
+    def keep_columns(self):
+        """The numbers of the entries that waited, column by column."""
+        steps, nows, own, stacks, some = zip(*self.waiting)
+        across, down = zip(*happenings.cursor_dots(nows))
+        told = (steps, [now.x for now in nows], [now.y for now in nows], across, down, own, stacks, some, [now.total for now in nows])
         for column, numbers in zip(self.columns.values(), told):
             column.extend(numbers)
+        self.waiting.clear()
 
     def follow_page(self, run, line, entry):
         patch = line.get("page", ())
@@ -150,10 +143,10 @@ class Recorder:
         elif patch:
             self.open.add(entry, patch["x"] // 8, patch["y"], [bytes.fromhex(row) for row in patch["rows"]])
 
-    def keep_fields(self, whole, view):
+    def keep_fields(self, run, view):
         """What changed, as JSON; a chunk begins with all fields."""
         if not self.part:
-            self.part.append(as_json(whole))
+            self.part.append(as_json(run.fields.whole_view()))
         self.part.append(view)
         if len(self.part) > ENTRIES_IN_CHUNK:
             self.end_fields()
@@ -164,7 +157,8 @@ class Recorder:
             self.part = []
 
     def end(self):
-        self.keep_rows()
+        if self.waiting:
+            self.keep_columns()
         self.end_fields()
         if self.open is not None:
             self.open.end()
@@ -178,9 +172,13 @@ class Listing:
         self.starts, self.firsts = array.array("q"), array.array("i")
         self.entry, self.tally, self.seen = None, remarks.Tally(), streams.Seen(run)
 
+    def first_entry(self):
+        """That behind those of the front."""
+        return sum(1 + each.bodies for each in self.run.front)
+
     def note(self, offset, entries):
-        if self.entry is None:      # behind those of the front
-            self.entry = sum(1 + each.bodies for each in self.run.front)
+        if self.entry is None:
+            self.entry = self.first_entry()
         self.starts.append(offset + self.shift)
         self.firsts.append(self.entry)
         self.entry += entries
@@ -204,8 +202,12 @@ class Listing:
 
     def transfers(self, some):
         """Those of rows within raster graphics, in whose texts nothing has to be escaped."""
+        if self.entry is None:
+            self.entry = self.first_entry()
+        self.starts.extend([row.offset + self.shift for row in some])
+        self.firsts.extend(range(self.entry, self.entry + len(some)))
+        self.entry += len(some)
         for row in some:
-            self.note(row.offset, 1)
             spelled, what = remarks.row_named(row.field)
             yield f'["{shortened(text_of_transfer(row))}","{row.offset}","{spelled}","{what}","{remarks.effect_of_row(row)}",0,""]'
 
@@ -260,15 +262,15 @@ COUNTS = bytes(byte.bit_count() for byte in range(256))
 SHADES = bytes(png.PAPER - png.PAPER * min(black, 64) // 64 for black in range(256))    # by how many of 64 dots are black
 
 
-def side_value(run, recorder, number, data, each):
+def side_value(recorder, page, number, data, each):
     """What is shown of a side: what is told of it, its page of the film, what it has beyond that, and a picture."""
     told, sheet, name, copies = each
     header = png.HEADER.match(data)
     stride = (told.width + 7) // 8
     rows = [data[start:start + stride] for start in range(header.end(), len(data), stride)]
-    page = recorder.film_of.get(run.pages_of_sides()[number][0], NONE)
-    known = recorder.pages[page].hashes if page != NONE else [hash(bytes(stride))] * told.height
-    other = [line for line, row in enumerate(rows) if hash(row) != known[line]]
+    page = recorder.film_of.get(page, NONE)
+    known = recorder.pages[page].hashes if page != NONE else itertools.repeat(hash(bytes(stride)))
+    other = [line for line, (row, wanted) in enumerate(zip(rows, known)) if hash(row) != wanted]
     more = {"top": other[0], "rows": packed(b"".join(rows[other[0]:other[-1] + 1]))} if other else None
     times = f", {copies} copies" if copies > 1 else ""
     return {"label": f"Sheet {sheet} {name}{times}, {told.width} x {told.height} dots, {told.black} of them black", "sheet": sheet, "name": name,
@@ -285,8 +287,8 @@ def data_of(stream, front, chosen, name):
     findings = list(listed.findings(name))
     starts, columns = listed.starts, recorder.columns
     columns["own"] = [NONE if offset < 0 else bisect.bisect_right(starts, offset) - 1 for offset in columns["own"]]
-    printed = [side_value(run, recorder, number, data, each)
-               for number, (data, each) in enumerate(zip(sides.packed_sides(run), listed.seen.sides.found))]
+    printed = [side_value(recorder, page, number, data, each)
+               for number, (data, each, page) in enumerate(zip(sides.packed_sides(run), listed.seen.sides.found, listed.seen.sides.pages))]
     return {
         "name": name,
         "facts": f"{remarks.plural(len(stream), 'byte')}, {remarks.plural(listed.tally.count(), 'command')}, "
