@@ -112,10 +112,10 @@ BEHIND = 500               # rows that are read behind the caller before it is l
 
 class Read:
     """The rows of a run, which are read as far as one is looked at, or behind the caller. What `shows` makes of each stands in a file without a name; that
-    of the end is the last."""
+    of the end is the last. Rows within raster graphics are told by `film` when they are looked at, where there is one."""
 
-    def __init__(self, run, shows):
-        self.run, self.shows, self.reading = run, shows, rows(run)
+    def __init__(self, run, shows, film=None):
+        self.run, self.shows, self.film, self.reading = run, shows, film, rows(run) if film is None else parts(run)
         self.starts, self.ends, self.file, self.fresh = array.array("Q"), array.array("Q", [0]), tempfile.TemporaryFile(), []
         self.is_whole = self.is_over = False
         self.behind = None                      # the thread that reads
@@ -126,6 +126,10 @@ class Read:
         """Reads so many rows, or those that are left."""
         for _ in range(most):
             row = next(self.reading, None)
+            if type(row) is list:
+                self.starts.extend([each.offset for each in row])
+                self.ends.extend([self.ends[-1]] * len(row))
+                continue
             text, remark = (row.text, row.remark) if row else ("uel", of_end(self.run))
             shown = self.shows(text, remark).encode(errors="surrogateescape")
             with self.grown:
@@ -197,6 +201,9 @@ class Read:
 
     def shown(self, number):
         """What is shown of a row."""
+        if self.ends[number] == self.ends[number + 1]:
+            row = self.film.transfer(self.starts[number])
+            return self.shows(text_of_transfer(row), remarks.remark_of_row(row).text())
         with self.grown:
             if self.ends[number + 1] > self.written:
                 self.write()

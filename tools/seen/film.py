@@ -14,8 +14,9 @@ from model import commands
 from . import program, traced
 from .bodies import Body, Follower, Placed, Step
 from .fields import Fields, Now, power_on
+from .happenings import Row
 from .opened import Opened
-from .patches import Page, rows_of
+from .patches import BETWEEN, Page, Patch, rows_of
 from .placing import Placer, row_of
 from .sent import letters
 
@@ -388,6 +389,19 @@ class Film:
             if (patch := PATCH.search(text)) is not None and patch[1] is None and page is not None:
                 page.lay_rows(int(patch[3]) // 8, int(patch[4]), rows_of(patch[2]))
         return page
+
+    def transfer(self, place):
+        """The row within raster graphics that stands at a place of the stream, as one who explains it wants it."""
+        place += self.shift
+        while not self.blocks or self.blocks[-1].last <= place:
+            self.has(self.count + 1)
+        number = bisect.bisect_right(self.blocks, place, key=lambda block: block.first) - 1
+        entry = next(entry for entry in self.entries(number)[0] if entry.line["at"] == place)
+        placed, before, told, patch = entry.step.placed, entry.step.before, entry.line.get("page"), None
+        if told:
+            patch = Patch(self.page(entry.first - 1), told["x"] // 8, told["y"], BETWEEN.join(map(str.encode, told["rows"])))
+            patch.old = patch.page.rows[patch.top:patch.top + patch.count()]
+        return Row(place - self.shift, placed.length, placed.command.field, placed.command.data, before, entry.now, 0, None, patch)
 
     def dot(self, count, x, y):
         """Whether a dot of the open page is black behind so many steps; None where it is on no page."""
