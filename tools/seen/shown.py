@@ -15,7 +15,7 @@ import zlib
 
 from reasons import streams
 
-from . import happenings, png, remarks, sides
+from . import happenings, png, program, remarks, sides
 from .explained import END, parts, text_of_transfer
 
 ROWS_IN_CHUNK, ENTRIES_IN_CHUNK, BYTES_IN_CHUNK = 500, 500, 1 << 20
@@ -293,7 +293,7 @@ def data_of(stream, front, chosen, name):
         "name": name,
         "facts": f"{remarks.plural(len(stream), 'byte')}, {remarks.plural(listed.tally.count(), 'command')}, "
                  f"{remarks.plural(sum(copies for _, _, _, copies in run.pages_of_sides()), 'side')}; "
-                 f"pages printed by {sides.who(run)}, steps told by {run.who}",
+                 f"pages printed by {program.who(run.chosen)}, steps told by {run.who}",
         "rows": {"count": len(starts), "size": ROWS_IN_CHUNK, "chunks": texts, "first": column(listed.firsts)},
         "entries": {"count": len(recorder.flags), "size": ENTRIES_IN_CHUNK, "columns": {key: column(some) for key, some in columns.items()},
                     "flags": packed(bytes(recorder.flags)), "fields": recorder.fields},
