@@ -77,6 +77,7 @@ class Session:
         """Ends what is made behind."""
         if self.text is not None:
             self.text.read.stop()
+            self.film.opened.stop()
 
     # Begin and end
 

@@ -198,7 +198,7 @@ class Film:
         fields = Fields()
         follower = Walker(fields.go_on(power_on(chosen)), row_of)
         self.state_read = State(self.whole, fields, follower, Placer(self.whole))
-        self.blocks, self.counts, self.count, self.is_whole = [], array.array("Q"), 0, False
+        self.blocks, self.counts, self.count, self.is_whole, self.fault = [], array.array("Q"), 0, False, None
         self.lines_left, self.place, self.power_on = self.opened.lines(), 0, (fields.now, dict(fields.view))
         self.read_again, self.pages = {}, {}     # blocks, and pages where blocks begin
 
@@ -244,7 +244,12 @@ class Film:
     def has(self, count):
         """Whether there are so many steps; the lines are read as far as that."""
         while self.count < count and not self.is_whole:
-            self.is_whole = not self.read()
+            if self.fault:
+                raise self.fault
+            try:
+                self.is_whole = not self.read()
+            except (OSError, ValueError) as fault:
+                self.fault = fault
         return self.count >= count
 
     def up_to(self, count):
