@@ -21,7 +21,7 @@ from .placing import Placer, row_of
 from .sent import letters
 
 MOST_LINES, MOST_BYTES = 256, 1_000_000   # of a block
-MOST_BLOCKS, MOST_PAGES = 4, 24           # that are kept, of those that were read again
+MOST_BLOCKS, MOST_PAGES = 4, 8            # that are kept, of those that were read again
 MOST_RECENT = 64
 GREATEST = 2 ** 64 - 1
 SHEET, REPLY, IDLE, RECORDED = 1, 2, 4, 8      # what is noted of a step
