@@ -36,10 +36,10 @@ def serve(given, line, chosen=program.PROGRAM):
         except wire.Malformed as malformed:
             line.complain(f"a message is passed over: {malformed}")
             continue
-        if request is None:
-            return
-        line.note("<", request)
-        if request.get("type") == "request" and not session.carry_out(request):
+        if request is not None:
+            line.note("<", request)
+        if request is None or request.get("type") == "request" and not session.carry_out(request):
+            session.leave()
             return
 
 
@@ -73,6 +73,12 @@ class Session:
             behind()
         return name not in ("disconnect", "terminate")
 
+    def leave(self):
+        """Ends what is made behind."""
+        if self.text is not None:
+            self.text.read.stop()
+            self.film.opened.stop()
+
     # Begin and end
 
     def do_initialize(self, _asked):
@@ -87,15 +93,38 @@ class Session:
         if picture and (picture == source or made.identity(picture) == made.identity(source) is not None):
             raise Refused(f"{source} is the name of the text, and of the picture")
         stream, front = path.read_bytes(), front_of(asked)
-        shot, text = film.Film(stream, front, self.chosen), Text(stream, front, self.chosen)
-        made.make(source, text.whole(), [path])
+        shot = film.Film(stream, front, self.chosen)
+        text = Text(stream, front, self.chosen, shot.opened.lines())
+        made.make(source, text.read.pieces(), [path])
+        self.leave()
         self.film, self.text, self.stops, self.shown = shot, text, Stops(shot), None
         self.stream, self.source, self.picture, self.on_entry = path, source, picture, on_entry
         self.count, self.ended, self.stop = 0, False, Stop("entry")
 
     def behind_launch(self):
         self.wire.tell("initialized", {})
-        self.wire.tell("output", {"category": "console", "output": f"{self.text.steps} steps, told by {self.film.who}\n"})
+        if self.text.is_whole:
+            self.tell_steps()
+            return
+        self.say(f"told by {self.film.who}; the text has its first lines, and the others are made behind")
+        self.text.make_on(self.make_whole)
+
+    def say(self, text):
+        self.wire.tell("output", {"category": "console", "output": text + "\n"})
+
+    def tell_steps(self):
+        self.say(f"{self.text.steps} steps, told by {self.film.who}")
+
+    def make_whole(self, fault):
+        """The text is read to its end, or cannot be."""
+        try:
+            if fault:
+                raise fault
+            made.make(self.source, self.text.read.pieces(), [self.stream])
+        except (OSError, ValueError) as fault:
+            self.wire.complain(f"the text is not made on: {fault}")
+            return
+        self.tell_steps()
 
     def do_configurationDone(self, _asked):
         pass
@@ -132,7 +161,7 @@ class Session:
         some, answers = [], []
         same = os.path.realpath(asked.within("source").given("path", str) or "") == os.path.realpath(self.source)
         for each in asked.objects("breakpoints"):
-            line = min(each.needed("line", int), len(self.text.lines))
+            line = self.text.upto(each.needed("line", int))
             answers.append(self.made(some, each, line=line) if same and line > 0 else
                            {"verified": False, "message": f"the {'text' if same else 'stream'} has no such {'line' if same else 'text'}"})
         self.stops.lines = some
@@ -177,7 +206,7 @@ class Session:
     def do_breakpointLocations(self, asked):
         line = asked.needed("line", int)
         last = asked.given("endLine", int)
-        return {"breakpoints": [{"line": each} for each in range(max(1, line), min(line if last is None else last, len(self.text.lines)) + 1)]}
+        return {"breakpoints": [{"line": each} for each in range(max(1, line), self.text.upto(line if last is None else last) + 1)]}
 
     def do_exceptionInfo(self, _asked):
         return {"exceptionId": self.stop.text, "description": self.stop.text, "breakMode": "always"}
@@ -197,7 +226,7 @@ class Session:
             return
         self.count, stop = self.stops.run(self.count, step)
         for text in self.stops.said:
-            self.wire.tell("output", {"category": "console", "output": text + "\n"})
+            self.say(text)
         self.stops.said.clear()
         self.stopped(stop or Stop("pause", "the end of the stream" if step > 0 else "the begin of the stream"))
 
@@ -217,7 +246,7 @@ class Session:
 
     def draw(self):
         """Makes the picture of the page anew, if it is another than the one that is shown."""
-        version = self.film.versions[self.count]
+        version = self.film.version(self.count)
         if self.picture is None or self.shown == version:
             return
         page, now = self.film.page(self.count), self.film.state(self.count)[0]
@@ -260,8 +289,8 @@ class Session:
         self.stopped(Stop("pause"))
 
     def do_gotoTargets(self, asked):
-        line = min(asked.needed("line", int), len(self.text.lines))
-        return {"targets": [{"id": line, "label": self.text.lines[line - 1][:80], "line": line}] if line > 0 else []}
+        line = self.text.upto(asked.needed("line", int))
+        return {"targets": [{"id": line, "label": self.text.shown(line)[:80], "line": line}] if line > 0 else []}
 
     def do_goto(self, asked):
         """The next place where this line comes, else the first."""
@@ -269,7 +298,7 @@ class Session:
         if target < 1:
             raise Refused("there is no such target")
         place = self.text.begins(target)
-        some = [count for count in range(len(self.film)) if self.film.taken[count].offset == place]
+        some = list(self.film.taking(place))
         if not some:
             raise Refused("no step takes this line")
         self.count = next((count for count in some if count > self.count), some[0])

@@ -3,7 +3,6 @@
 import re
 from typing import Callable, NamedTuple, Optional
 
-from model.commands import kind
 from model.debug_lines import kind_of
 from seen import film as films
 from seen import remarks
@@ -65,18 +64,18 @@ class Stops:
     def at(self, count):
         """Why a run stops behind so many steps, or None."""
         film, following = self.film, self.film.next(count)
-        last = film.taken[count - 1] if count else None
+        last, flags = film.kind(count), film.flags(count)
         numbers = self.of(self.lines, count, lambda one: one.place == (following.offset if following else None)) if following else ()
         if numbers:
             return Stop("breakpoint", "", numbers)
-        if last and not film.flags[count] & films.RECORDED:
-            numbers = self.of(self.kinds, count, lambda one: one.kind == kind(last.command))
+        if last and not flags & films.RECORDED:
+            numbers = self.of(self.kinds, count, lambda one: one.kind == last)
             if numbers:
-                return Stop("function breakpoint", kind(last.command), numbers)
+                return Stop("function breakpoint", last, numbers)
         if count and (numbers := self.of(self.data, count, lambda one: self.changes(one.data, count))):
             return Stop("data breakpoint", next(one.data for one in self.data if one.number == numbers[0]), numbers)
         for name, asks in self.filters.items():
-            if film.flags[count] & FILTERS[name][1] and (asks is None or asks(self.step(count))):
+            if flags & FILTERS[name][1] and (asks is None or asks(self.step(count))):
                 return Stop("exception", FILTERS[name][0])
         return None
 
@@ -112,8 +111,13 @@ class Stops:
 
     def run(self, count, step):
         """Goes on, or back, to the next stop: how many steps were taken there, and why it stops; None at the end, or the begin."""
-        while self.film.has(count + 1) if step > 0 else count:
-            count += step
-            if (stop := self.at(count)) is not None:
-                return count, stop
-        return count, None
+        return self.film.sought(count, step, self.may_stop, self.at)
+
+    def may_stop(self, block):
+        """Whether a run may stop in a block, or before the command behind it."""
+        film = self.film
+        if any(block.flags & FILTERS[name][1] for name in self.filters) or any(one.kind.encode() in block.kinds for one in self.kinds):
+            return True
+        if any(block.changes("page" if DOT.fullmatch(one.data) else one.data) for one in self.data):
+            return True
+        return any(each.has_place(one.place) for one in self.lines for each in (block, film.behind(block)) if each is not None)

@@ -15,7 +15,7 @@ SCRIPTS = [*(page_html.HERE / name for name in ("film.js", "dots.js", "list.js",
 def page(names, facts, lines, found):
     """The text of the file: of the names of both streams, what is told of all, the lines on what has no picture, and what is told of the sides."""
     data = {"facts": facts, "lines": lines, "most": MOST_REGIONS, "sides": [side_value(each, regions) for each, regions in found if regions]}
-    return page_html.filled(HERE / "laid.html", SCRIPTS, printable(" and ".join(names)), data)
+    return "".join(page_html.filled(HERE / "laid.html", SCRIPTS, printable(" and ".join(names)), data))
 
 
 def side_value(each, regions):

@@ -35,7 +35,7 @@ def looked_at(shown, stream, front=b"", chosen=program.PROGRAM):
     if (other := of_kind(shown, stream)) is not None:
         return [other], []
     run = happenings.Run(stream, front=front, chosen=chosen)
-    seen = Seen(run, happenings.together(run))
+    seen = Seen(run)
     for happening, met in seen.judge.judged():
         seen.add(happening, met)
     return seen.findings(shown), seen.sides.found
@@ -54,8 +54,8 @@ class Seen:
     """What is seen of a run: the reasons that it met, its sides, and of each page that came out blank what was sent to it. Of the others nothing is
     held."""
 
-    def __init__(self, run, some=None):
-        self.run, self.judge, self.sides = run, Judge(run, some), listing.Sides(run)
+    def __init__(self, run):
+        self.run, self.judge, self.sides = run, Judge(run), listing.Sides(run)
         self.groups, self.pages = {}, {}
         self.count = self.recorded = 0
         self.told = 0          # sides of which it is known whether they are blank

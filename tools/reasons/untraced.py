@@ -517,10 +517,10 @@ PLAIN_VALUES = {"*bM": (0, 1, 2, 3, 5)}    # that change nothing where they say 
 
 
 class Judge:
-    """The reasons that the happenings of a run meet: all of them, or these."""
+    """The reasons that the happenings of a run meet, rows together."""
 
-    def __init__(self, run, some=None):
-        self.run, self.some = run, some or run
+    def __init__(self, run):
+        self.run = run
         self.language, self.left_until = None, 0    # that a line entered, and where data that was taken ends
         self.registered = {}                        # the first value of each edge for which a registration asks
         self.following = following.Following(run)
@@ -531,7 +531,7 @@ class Judge:
         """Each happening with its reason and key, or None, once all that decides them was seen: those that wait for it come later, but `in_order`, where
         what follows waits, too."""
         waiting, held, before = collections.deque(), self.following.held, None
-        for self.next in itertools.chain(self.some, [None]):
+        for self.next in itertools.chain(self.run.together(), [None]):
             if before is not None:
                 met = None if is_plain(before) else self.first_met(before)
                 self.following.go_on(before)

@@ -1,5 +1,10 @@
 """The commands of a stream as lines of text: each is one row, and so are bytes of text, of another language or of HP-GL/2 that stand together."""
 
+import array
+import bisect
+import os
+import tempfile
+import threading
 from typing import NamedTuple
 
 from model.asm import digits_of, line_of_command
@@ -41,12 +46,24 @@ def bytes_of(placed, stream):
 
 def rows(run, judge=None, see=None):
     """The rows of a run, one after another, without the exit that is added at the end. `see` is handed each happening with the reason that it met."""
+    for part in parts(run, judge, see):
+        if type(part) is list:
+            yield from map(row_of_transfer, part)
+        else:
+            yield part
+
+
+def parts(run, judge=None, see=None):
+    """The same, but of rows within raster graphics of which nothing is to be said but what they do these themselves, as many as stand together."""
     judge, some, key, because, met = judge or Judge(run), [], None, "", None
     for happening, each in judge.judged(in_order=True):
         if see:
             see(happening, each)
-        if each is None and not some and type(happening) is happenings.Row:
-            yield row_of_transfer(happening)
+        if each is None and type(happening) is happenings.Row:
+            if some:
+                yield row_of(run, some, because, met)
+                some = []
+            yield happening.others or [happening]
             continue
         why = each[0].because(judge, happening) if each else ""
         own = run_of(happening, why)
@@ -64,8 +81,11 @@ def rows(run, judge=None, see=None):
 
 def row_of_transfer(row):
     """The row of a row within raster graphics of which nothing is to be said but what it does."""
-    text = f"par *b{row.field.decode()}W {digits_of(row.data)}".rstrip()
-    return Row(row.offset, text, remarks.remark_of_row(row), [row], None, "")
+    return Row(row.offset, text_of_transfer(row), remarks.remark_of_row(row), [row], None, "")
+
+
+def text_of_transfer(row):
+    return f"par *b{row.field.decode()}W {digits_of(row.data)}".rstrip()
 
 
 def row_of(run, some, because, met):
@@ -84,3 +104,115 @@ END = "the end, where the press adds a universal exit"
 def of_end(run):
     """The remark on the exit that the press adds."""
     return f"at {len(run.stream)}, {END}: {remarks.effect_of(run.end)}"
+
+
+KEPT_TOGETHER = 1 << 16    # bytes of rows that are written at once
+BEHIND = 500               # rows that are read behind the caller before it is looked whether he still wants more
+
+
+class Read:
+    """The rows of a run, which are read as far as one is looked at, or behind the caller. What `shows` makes of each stands in a file without a name; that
+    of the end is the last. Rows within raster graphics are told by `film` when they are looked at, where there is one."""
+
+    def __init__(self, run, shows, film=None):
+        self.run, self.shows, self.film, self.reading = run, shows, film, rows(run) if film is None else parts(run)
+        self.starts, self.ends, self.file, self.fresh = array.array("Q"), array.array("Q", [0]), tempfile.TemporaryFile(), []
+        self.is_whole = self.is_over = False
+        self.behind = None                      # the thread that reads
+        self.written = 0                        # bytes that stand in the file
+        self.fault, self.grown = None, threading.Condition()
+
+    def go_on(self, most):
+        """Reads so many rows, or those that are left."""
+        for _ in range(most):
+            row = next(self.reading, None)
+            if type(row) is list:
+                self.starts.extend([each.offset for each in row])
+                self.ends.extend([self.ends[-1]] * len(row))
+                continue
+            text, remark = (row.text, row.remark) if row else ("uel", of_end(self.run))
+            shown = self.shows(text, remark).encode(errors="surrogateescape")
+            with self.grown:
+                self.fresh.append(shown)
+                if row:
+                    self.starts.append(row.offset)
+                self.ends.append(self.ends[-1] + len(shown))
+                if self.ends[-1] - self.written > KEPT_TOGETHER:
+                    self.write()
+            if row is None:
+                self.is_whole = True
+                return
+
+    def write(self):
+        data = b"".join(self.fresh)
+        self.fresh.clear()
+        os.pwrite(self.file.fileno(), data, self.written)
+        self.written += len(data)
+
+    def read_behind(self, then):
+        """Reads on in a thread, and calls `then` at the end, with what went wrong, or None."""
+        self.behind = threading.Thread(target=self.read_to_the_end, args=(then,), daemon=True)
+        self.behind.start()
+
+    def read_to_the_end(self, then):
+        try:
+            while not self.is_whole and not self.is_over:
+                self.go_on(BEHIND)
+                self.tell_those_who_wait()
+        except (OSError, ValueError) as fault:
+            self.fault = fault
+            self.tell_those_who_wait()
+        if not self.is_over:
+            then(self.fault)
+
+    def tell_those_who_wait(self):
+        with self.grown:
+            self.grown.notify_all()
+
+    def stop(self):
+        """Ends what reads behind, where nobody asks for what follows."""
+        self.is_over = True
+        if self.behind is not None:
+            self.behind.join()
+
+    def until(self, there):
+        """Reads on, or waits, until something is there, or all is read."""
+        while not self.is_whole and not there():
+            if self.fault:
+                raise self.fault
+            if self.behind is None:
+                self.go_on(1)
+            else:
+                with self.grown:
+                    self.grown.wait_for(lambda: self.fault or self.is_whole or there())
+
+    def has(self, number):
+        """Whether there is a row of this number, from 0; the end is one."""
+        self.until(lambda: len(self.ends) > number + 1)
+        return number < len(self.ends) - 1
+
+    def number(self, place):
+        """The number of the row in which a byte of the stream stands; that of the end is behind the last."""
+        if place >= len(self.run.stream):
+            self.until(lambda: False)
+            return len(self.starts)
+        self.until(lambda: len(self.starts) and self.starts[-1] > place)
+        return max(0, bisect.bisect_right(self.starts, place) - 1)
+
+    def shown(self, number):
+        """What is shown of a row."""
+        if self.ends[number] == self.ends[number + 1]:
+            row = self.film.transfer(self.starts[number])
+            return self.shows(text_of_transfer(row), remarks.remark_of_row(row).text())
+        with self.grown:
+            if self.ends[number + 1] > self.written:
+                self.write()
+        start, end = self.ends[number], self.ends[number + 1]
+        return os.pread(self.file.fileno(), end - start, start).decode(errors="surrogateescape")
+
+    def pieces(self):
+        """All that is shown, in pieces."""
+        with self.grown:
+            self.write()
+            end = self.written
+        yield from (os.pread(self.file.fileno(), min(KEPT_TOGETHER, end - place), place) for place in range(0, end, KEPT_TOGETHER))

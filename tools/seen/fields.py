@@ -27,6 +27,7 @@ ORDER = [
     "raster_on", "raster_left", "row_count", "marked", "defining", "total", "since_job", "pjl_current", "pjl_default", "pjl_status",
 ]
 
+MOST_KNOWN = 500
 OWN = ["x", "y", "row_count", "total"]   # of these those that change at most steps
 
 
@@ -64,6 +65,7 @@ class Fields:
         self.view = {}
         self.now = Now({}, 0, 0, 0, 0)
         self.is_late = False   # whether the view has another number of rows than there are now
+        self.known = {}        # what follows fields by what is told, and fields by their values: most streams go to and fro between a few
 
     def whole_view(self):
         """The objects of the view, with all that was told."""
@@ -80,9 +82,23 @@ class Fields:
                 self.view[name] = {**self.view.get(name, {}), **told}
             row_count = self.view["raster"]["rows"] or 0
             if view.keys() != {"raster"} or view["raster"].keys() != {"rows"} or view["raster"]["rows"] is None:
-                base = {**base, **named(view, self.view)}
+                base = self.base_behind(base, view)
         self.now = Now(base, line["x"], line["y"], line["sheets"], row_count)
         return self.now
+
+    def base_behind(self, base, view):
+        """The fields that change seldom, behind what is told of them."""
+        (name, told), *others = view.items()
+        key = None if others or len(told) > 2 or name == "cursor" else (id(base), name, *told.items())
+        if key in self.known:
+            return self.known[key][1]
+        new = {**base, **named(view, self.view)}
+        if key is not None:
+            if len(self.known) > MOST_KNOWN:
+                self.known.clear()
+            new = self.known.setdefault(tuple(new.values()), new)
+            self.known[key] = base, new
+        return new
 
     def go_on_row(self, x, y, sheets, count):
         """The fields behind a row within raster graphics, which changes the cursor and the number of rows alone."""

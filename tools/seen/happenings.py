@@ -11,8 +11,8 @@ from model import commands, pages
 from model.values import dot_positions
 
 from . import program, sent, traced
-from .bodies import Follower, Placed
-from .fields import Fields, changes, power_on
+from .bodies import Follower, Placed, Step
+from .fields import Fields, Now, changes, power_on
 from .leaves import Leaves
 from .patches import BETWEEN, Open, Page, Patch
 from .placing import Placer, row_of
@@ -26,6 +26,10 @@ OTHER_KIND = (ord("*"), ord("b"), ord("W"))
 HEAD = re.compile(rb"(?:\x1b\*b)?([^Ww]*)[Ww]")     # of a row, and its value
 
 
+MOST_JOINED = 256    # rows
+# Kinds that do no more than set fields, where nothing else is told.
+PLAIN = {f"par {letters}" for letters in ("*bM", "*pX", "*pY", "&aC", "&aR", "&aH", "&aV", "*cA", "*cB", "*cH", "*cV", "*cG", "*vT", "*vN", "*vO", "*tR",
+                                          "*rS", "*rT")}
 FIRST_TEXT = 0x20
 RUN = re.compile(rb"[\x20-\xff]+|[\0-\x1f]")
 
@@ -116,12 +120,13 @@ class Happening(NamedTuple):
 class Row:
     """A happening that is a row within raster graphics. Drivers send hundreds of thousands, so what takes time is made when it is asked for."""
 
-    __slots__ = "offset", "length", "field", "data", "before", "now", "page", "sent", "patch", "marked", "read"
+    __slots__ = "offset", "length", "field", "data", "before", "now", "page", "sent", "patch", "marked", "read", "others"
     row, how, key, recorded_in, closes, sheets, replies, bodies, depth, fills = "*bW", "row", "*bW", None, 0, (), b"", 0, 0, True
 
     def __init__(self, offset, length, field, data, before, now, page, gone, patch):
         self.offset, self.length, self.field, self.data = offset, length, field, data
         self.before, self.now, self.page, self.sent, self.patch, self.marked, self.read = before, now, page, gone, patch, None, None
+        self.others = None     # the rows that it stands for
 
     @property
     def placed(self):
@@ -139,9 +144,17 @@ class Row:
             self.marked = () if self.patch is None else (Mark(self.page, [self.patch]),)
         return self.marked
 
+    def count(self):
+        """How many rows it stands for."""
+        return 1 if self.others is None else len(self.others)
+
     def size(self):
         """Width and height of what it marks."""
-        left, top, right, bottom, _ = box_of(*self.patch.whole())
+        place, top, rows, old = self.patch.whole()
+        if len(rows) == 1:
+            dots = int.from_bytes(rows[0], "big") ^ int.from_bytes(old[0][place:place + len(rows[0])], "big")
+            return dots.bit_length() - (dots & -dots).bit_length() + 1, 1
+        left, top, right, bottom, _ = box_of(place, top, rows, old)
         return right - left + 1, bottom - top + 1
 
     @property
@@ -155,23 +168,12 @@ class Row:
         return self.patch is not None
 
 
-def together(some):
-    """Happenings, but of rows that come out whole one behind the other the first alone, and the last that marks, which stands for the others."""
-    held, count, before = None, 0, False
-    for each in some:
-        whole = type(each) is Row and each.sent is sent.WHOLE_ROW and each.is_changing()
-        if whole and before:
-            held, count = each if held is None or each.patch is not None else held, count + 1
-            continue
-        if held is not None:
-            held.sent = sent.Sent(count)
-            yield held
-            held, count = None, 0
-        before = whole
-        yield each
-    if held is not None:
-        held.sent = sent.Sent(count)
-        yield held
+def joined(some):
+    """Rows that come out whole one behind the other as one: as the last that marks, or the first where none does."""
+    held = next((row for row in reversed(some) if row.patch is not None), some[0])
+    one = Row(held.offset, held.length, held.field, held.data, held.before, held.now, held.page, sent.Sent(len(some)), held.patch)
+    one.others = some
+    return one
 
 
 def of_step(line, step, page, patch=None):
@@ -203,7 +205,7 @@ class Marks(Open):
         """What a line lays over the page, before that goes on by it."""
         told = line["page"]
         page = Page(*line["opened"]) if "opened" in line else self.page
-        patch = Patch(page, told["x"] // 8, told["y"], BETWEEN.join(told["rows"]).encode())
+        patch = Patch(page, told["x"] // 8, told["y"], BETWEEN.join(map(str.encode, told["rows"])))
         patch.old = page.rows[patch.top:patch.top + told["height"]]
         return patch
 
@@ -217,31 +219,54 @@ class Marks(Open):
 class Run:
     """What a stream does: its happenings, one after another, and its sheets; all is known when they were asked for to the end. What stands in front
     of it sets the defaults. `watch` is handed each line, before the page goes on by it, with the step that it is of; of bytes that are passed over at
-    once the last line alone, without a step. One that has a `row` is handed rows within raster graphics by it, without a line."""
+    once the last line alone, without a step. One that has a `row` is handed rows within raster graphics by it, without a line. `texts` are its lines,
+    with runs, where somebody has them."""
 
-    def __init__(self, stream, front=b"", chosen=program.PROGRAM, watch=None):
+    def __init__(self, stream, front=b"", chosen=program.PROGRAM, watch=None, texts=None):
         self.watch, self.watch_row = watch, getattr(watch, "row", None)
         self.stream = stream
         self.whole = front + stream
         self.chosen = chosen
         self.who = traced.who(chosen)
-        self.texts, self.text = traced.texts(self.whole, chosen, runs=watch is None), None
+        self.texts, self.text = texts or traced.texts(self.whole, chosen, runs=watch is None), None
         self.fields = Fields()
         self.follower = Follower(self.fields.go_on(power_on(chosen)), row_of)
         self.leaves, self.marks, self.watcher = Leaves(), Marks(), sent.Watcher()
         self.placer = Placer(self.whole, len(front))
         self.front, self.end, self.steps = [], None, 0
         self.base = None      # fields with which a row within raster graphics is carried out
+        self.row_read = None  # where the last of these and its data begin, until another command comes
 
     def __iter__(self):
         """The happenings; those of the front, and that of the exit that is added at the end, stand by themselves."""
-        alone, quick = False, self.watch is None or self.watch_row is not None
+        return self.happenings(False)
+
+    def together(self):
+        """The same, but of rows that come out whole one behind the other the first alone, and those behind it as one."""
+        return self.happenings(True)
+
+    def happenings(self, joins):
+        alone, quick, some, before = False, self.watch is None or self.watch_row is not None, [], False
         while True:
             text = self.next_text()
             if quick and (found := ROW.fullmatch(text)) and (self.fields.now.base is self.base or self.takes_rows()):
-                alone = False
-                yield self.carry_out_row(found)
+                alone, row = False, self.carry_out_row(found)
+                whole = joins and row.sent is sent.WHOLE_ROW and row.before.is_other(row.now)
+                if whole and before:
+                    some.append(row)
+                if some and (len(some) == MOST_JOINED or not whole):
+                    yield joined(some)
+                    some = []
+                if not whole or not before:
+                    yield row
+                before = whole
                 continue
+            before = False
+            if some:
+                yield joined(some)
+                some = []
+            if self.row_read is not None:
+                self.leave_rows()
             line = traced.told(text)
             if "steps" in line:
                 yield from self.pass_run(line, alone)
@@ -253,7 +278,10 @@ class Run:
             if placed.offset < 0:
                 self.front.append(self.carry_out(line, placed))
                 continue
-            yield self.pass_over(line, placed) if self.goes_together(placed.command, alone) else self.carry_out(line, placed)
+            if line["last"] in PLAIN and len(line) == 8 + ("view" in line) and not line["depth"] and self.is_quiet():
+                yield self.carry_out_plain(line, placed)
+            else:
+                yield self.pass_over(line, placed) if self.goes_together(placed.command, alone) else self.carry_out(line, placed)
             alone = takes_data(placed.command) or (alone and isinstance(placed.command, commands.Text))
         self.end, self.steps = self.carry_out(line, placed), line["step"]
         if next(self.texts, None) is not None:
@@ -322,18 +350,43 @@ class Run:
     def carry_out_row(self, found):
         """A row within raster graphics, of the line that was matched."""
         at, size, rows, left, top, sheets, step, count, x, y = found.groups()
-        place, size, patch, before, placer = int(at), int(size), None, self.fields.now, self.placer
-        field = HEAD.match(self.whole, place)
+        place, size, patch, fields = int(at), int(size), None, self.fields
+        before, field = fields.now, HEAD.match(self.whole, place)
         begins = field.end()
-        data, placer.before = self.whole[begins:place + size], ("par *bW", self.whole[place:begins])
+        data, self.row_read = self.whole[begins:place + size], (place, begins)
         if rows is not None:
             patch = self.marks.page.lay_later(int(left) // 8, int(top), rows)
         gone = self.watcher.of_rows(before, data, rows is not None)
-        now = self.follower.fields = self.fields.go_on_row(int(x), int(y), int(sheets), count and int(count))
-        row = Row(place - placer.shift, size, field[1], data, before, now, self.leaves.closed, gone, patch)
+        if count is not None:
+            fields.is_late = True
+        now = fields.now = Now(before.base, int(x), int(y), int(sheets), before.row_count if count is None else int(count))
+        row = Row(place - self.placer.shift, size, field[1], data, before, now, self.leaves.closed, gone, patch)
         if self.watch_row:
             self.watch_row(self, int(step), row, count is not None)
         return row
+
+    def leave_rows(self):
+        """What follows rows goes on by the last of them."""
+        place, begins = self.row_read
+        self.follower.fields, self.placer.before, self.row_read = self.fields.now, ("par *bW", self.whole[place:begins]), None
+
+    def is_quiet(self):
+        """Whether a command is carried out by itself: in no body, definition, or HP-GL/2."""
+        base = self.fields.now.base
+        return not self.follower.bodies and base.get("defining", 0) is None and not base["hpgl"]
+
+    def carry_out_plain(self, line, placed):
+        """Goes on by a command that does no more than set fields."""
+        before, now = self.follower.fields, self.fields.go_on(line)
+        self.follower.fields = now
+        if line["last"] != commands.kind(placed.command):
+            raise ValueError(f"step {line['step']} takes {line['last']}, and {commands.kind(placed.command)} stands at {placed.offset}")
+        row = row_of(placed.command)
+        how = "row" if row else "no row"
+        if self.watch:
+            self.watch(self, line, Step(placed, (), how, None, before, now))
+        return Happening(placed, row and row.name, how, None, changes(before, now), (), 0, (), b"", 0, self.leaves.closed, 0, now.base["resolution"], before,
+                         sent.NOTHING, True)
 
     def carry_out(self, line, placed):
         """Goes on by a command of the stream, and by the bodies that it starts."""
@@ -393,10 +446,20 @@ def size_at(name, resolution):
 
 def cursor_dot(now):
     """The physical dot of the cursor."""
-    base = now.base
-    offset, positions, size = frame_at(base["size"], base["resolution"], base["orientation"])
-    column, line = offset + now.x // positions, (now.y + base["top_margin"]) // positions
-    return pages.to_physical(size, base["orientation"], column, line)
+    return cursor_dots([now])[0]
+
+
+def cursor_dots(some):
+    """That of each of these fields."""
+    dots, base = [], None
+    for now in some:
+        if now.base is not base:
+            base = now.base
+            top, orientation = base["top_margin"], base["orientation"]
+            offset, positions, size = frame_at(base["size"], base["resolution"], orientation)
+        dot = offset + now.x // positions, (now.y + top) // positions
+        dots.append(dot if orientation == pages.PORTRAIT else pages.to_physical(size, orientation, *dot))
+    return dots
 
 
 @functools.lru_cache(maxsize=64)

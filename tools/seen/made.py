@@ -38,11 +38,13 @@ def is_replaced(name):
 
 
 def make(name, data, inputs=()):
-    """Makes a file of these bytes, or replaces one; where it cannot, an older one stays as it was. A link stays, and what it leads to is replaced."""
+    """Makes a file of these bytes, or of pieces of bytes one after another, or replaces one; where it cannot, an older one stays as it was. A link stays,
+    and what it leads to is replaced."""
+    pieces = [data] if isinstance(data, bytes) else data
     refuse_inputs([name], inputs)
     if not is_replaced(name):
         with open(name, "ab") as file:
-            file.write(data)
+            file.writelines(pieces)
         return
     place = Path(os.path.realpath(name))
     if place.exists() and not os.access(place, os.W_OK):
@@ -51,7 +53,7 @@ def make(name, data, inputs=()):
     number, part = tempfile.mkstemp(prefix=".press-", suffix=".part", dir=place.parent)
     try:
         with open(number, "wb") as file:
-            file.write(data)
+            file.writelines(pieces)
             os.fchmod(number, mode)
         os.replace(part, place)
     except BaseException:

@@ -1,12 +1,18 @@
 """Pages as the lines of a trace tell them: a white page, and patches that are laid over it."""
 
 import json
+from binascii import unhexlify
 
 from .printable import printable
 
 
 MOST_WAITING = 4096    # patches of a page that wait to be laid over it
-BETWEEN = '","'        # what stands between the rows of a patch in a line
+BETWEEN = b'","'       # what stands between the rows of a patch in a line
+
+
+def rows_of(spelled):
+    """The rows that stand in a line as they are spelled there."""
+    return [unhexlify(row) for row in spelled.split(BETWEEN)]
 
 
 class Patch:
@@ -20,7 +26,7 @@ class Patch:
 
     def rows(self):
         if self.made is None:
-            self.made = [bytes.fromhex(row) for row in self.spelled.decode().split(BETWEEN)]
+            self.made = rows_of(self.spelled)
         return self.made
 
     def count(self):

@@ -1,7 +1,9 @@
 """The program, where it stands, and what the tools ask of it."""
 
 import functools
+import itertools
 import os
+import select
 import subprocess
 import sys
 import tempfile
@@ -10,6 +12,8 @@ from pathlib import Path
 ROOT = Path(__file__).resolve().parent.parent.parent
 PROGRAM = ROOT / "crates" / "press" / "out" / "press"
 SECONDS = 600
+AT_ONCE = 1 << 20    # bytes of a side that are read
+PATIENCE = 0.1       # seconds until it is looked whether the program still runs
 
 
 def read_stream(name):
@@ -58,6 +62,39 @@ def printed_sides(stream, program=PROGRAM):
             yield side.read_bytes()
             side.unlink()
             number += 1
+
+
+def piped_sides(stream, count, program=PROGRAM):
+    """The same of so many sides, none of which is kept: each goes through a pipe of its name."""
+    with tempfile.TemporaryDirectory() as path:
+        folder = Path(path)
+        (folder / "stream").write_bytes(stream)
+        names = [folder / f"page-{number}.pbm" for number in range(1, count + 1)]
+        for name in names:
+            os.mkfifo(name)
+        with subprocess.Popen([answering(program), "print", "stream", "page-%d.pbm"], cwd=folder, stderr=subprocess.DEVNULL) as running:
+            try:
+                yield from itertools.takewhile(len, (read_pipe(name, running) for name in names))
+                yield from [b""] * (running.wait(SECONDS) == 0 and (folder / f"page-{count + 1}.pbm").exists())
+            finally:
+                running.kill()
+
+
+def read_pipe(name, running):
+    """What is written there until it is closed; nothing where the program ends before."""
+    number, pieces = os.open(name, os.O_RDONLY | os.O_NONBLOCK), []
+    try:
+        while True:
+            select.select([number], [], [], PATIENCE)
+            try:
+                piece = os.read(number, AT_ONCE)
+            except BlockingIOError:
+                continue
+            if not piece and (pieces or running.poll() is not None):
+                return b"".join(pieces)
+            pieces += [piece] if piece else []
+    finally:
+        os.close(number)
 
 
 def run_main(main):

@@ -278,8 +278,8 @@ def row_named(field):
     return f"ESC*b{field.decode()}W", ROW_NAME + value_without_data(*OTHER_KIND[:2], field, OTHER_KIND[2])
 
 
-def remark_of_row(row):
-    """The remark on a row within raster graphics of which nothing is to be said but what it does."""
+def effect_of_row(row):
+    """What a row within raster graphics does of which nothing else is to be said."""
     told, before, now = [], row.before, row.now
     if row.patch is not None:
         told.append("marks %d by %d dots" % row.size())
@@ -289,7 +289,11 @@ def remark_of_row(row):
         told.append(f"y {before.y} to {now.y}{unit_of_positions(now.y - before.y, now.base['resolution'])}")
     if before.row_count != now.row_count:
         told.append(f"raster rows {before.row_count} to {now.row_count}")
-    return Remark(str(row.offset), *row_named(row.field), "; ".join(told) or "changes nothing")
+    return "; ".join(told) or "changes nothing"
+
+
+def remark_of_row(row):
+    return Remark(str(row.offset), *row_named(row.field), effect_of_row(row))
 
 
 def remark(happening, pattern_id=0, because=""):
@@ -323,11 +327,12 @@ class Tally:
         self.kinds = {}
 
     def add(self, happening):
-        kind, count = (ROW_KIND, 1) if type(happening) is Row else (kind_of(happening.placed.command), happening.placed.count())
+        is_row = type(happening) is Row
+        kind, count = (ROW_KIND, happening.count()) if is_row else (kind_of(happening.placed.command), happening.placed.count())
         if (some := self.kinds.get(kind)) is None:
             some = self.kinds[kind] = [0, 0]
         some[0] += count
-        some[1] += happening.row is not None
+        some[1] += count if is_row else happening.row is not None
 
     def count(self):
         return sum(count for count, _ in self.kinds.values())

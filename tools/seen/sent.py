@@ -9,6 +9,7 @@ from model.values import POSITIONS_PER_INCH, dot_positions
 
 from .fields import State
 
+MOST_BASES = 500
 WIDE_BYTES = 8192   # of a row that is decoded as it was sent, past the width that it has here
 
 
@@ -105,21 +106,22 @@ def reach_of(data):
     place = reach = 0
     try:
         while True:
-            code = data[place]
-            reach += BEHIND[code]
-            place += TAKEN[code]
-            if code & 31 == 31:
-                place, code = place - TAKEN[code] + 1, TAKEN[code] - 1
-                while data[place] == 255:
-                    reach, place = reach + 255, place + 1
-                reach, place = reach + data[place], place + 1 + code
+            taken, behind = REPLACES[data[place]]
+            reach += behind
+            if taken:
+                place += taken
+                continue
+            code, place = data[place], place + 1      # its offset goes on
+            while data[place] == 255:
+                reach, place = reach + 255, place + 1
+            reach, place = reach + data[place], place + (code >> 5) + 2
     except IndexError:
         return reach
 
 
-# Of a byte of a delta row that begins a replacement: how far to the right it reaches behind the one before, and how many bytes it takes with its own.
-BEHIND = [(code & 31) + (code >> 5) + 1 for code in range(256)]
-TAKEN = [(code >> 5) + 2 for code in range(256)]
+# Of a byte of a delta row that begins a replacement: how many bytes it takes with its own, 0 where its offset goes on, and how far to the right it reaches
+# behind the one before.
+REPLACES = [((code >> 5) + 2 if code & 31 != 31 else 0, (code & 31) + (code >> 5) + 1) for code in range(256)]
 
 
 def reach_of_packed(data):
@@ -145,7 +147,7 @@ class Watcher:
 
     def __init__(self):
         self.seed = Seed()
-        self.strip, self.strips = None, {}
+        self.strip, self.strips, self.of_base = None, {}, {}
 
     def of(self, now, command, marks):
         """What a command that is carried out sends; the fields are those before it, and `marks` says whether the page is changed."""
@@ -159,14 +161,23 @@ class Watcher:
         return NOTHING
 
     def of_rows(self, now, data, marks):
-        base, y, count = now.base, now.y, now.row_count
+        base, y, count, seed = now.base, now.y, now.row_count, self.seed
         if count == 0 or not base["raster_on"]:
-            self.seed.clear()
+            seed.clear()
         strip = self.strip
         if strip is None or strip.base is not base:
             strip = self.strip = self.strip_of(now)
-        if base["method"] != rows.ADAPTIVE:
-            return self.of_row(strip, y, count, base["method"], data, marks)
+        method = base["method"]
+        if method == rows.DELTA_ROW and data and marks and strip.height is None:      # as most of a driver's
+            reach = reach_of(data)
+            seed.waiting.append((method, data))
+            if reach > seed.replaced:
+                seed.replaced = reach
+            if seed.reach <= strip.bytes >= seed.replaced and y < strip.end:
+                return WHOLE_ROW
+            return self.of_followed(strip, y, method, data, marks)
+        if method != rows.ADAPTIVE:
+            return self.of_row(strip, y, count, method, data, marks)
         sent = NOTHING
         for method, each in rows_of(data):
             if method is None:
@@ -179,10 +190,14 @@ class Watcher:
     def strip_of(self, now):
         """Most fields that change leave it as it is, as the method does."""
         base = now.base
-        key = tuple([base[name] for name in STRIP])
-        if key not in self.strips:
-            self.strips[key] = Strip(now)
-        strip = self.strips[key]
+        held, strip = self.of_base.get(id(base), (None, None))
+        if held is not base:
+            key = tuple([base[name] for name in STRIP])
+            if key not in self.strips:
+                self.strips[key] = Strip(now)
+            if len(self.of_base) == MOST_BASES:
+                self.of_base.clear()
+            _, strip = self.of_base[id(base)] = base, self.strips[key]
         strip.base = base
         return strip
 
@@ -190,10 +205,15 @@ class Watcher:
         """What a row sends that goes to this place; of one that marks the page, and loses none, its dots are not counted."""
         if strip.height is not None and count >= strip.height:
             return LATE_ROW
-        seed, room = self.seed, strip.bytes
+        seed = self.seed
         seed.follow(method, data)
-        if data and marks and seed.reach <= room >= seed.replaced and y < strip.end:
-            return WHOLE_ROW     # as most of a driver's
+        if data and marks and seed.reach <= strip.bytes >= seed.replaced and y < strip.end:
+            return WHOLE_ROW
+        return self.of_followed(strip, y, method, data, marks)
+
+    def of_followed(self, strip, y, method, data, marks):
+        """The same, behind the seed row, where dots may be lost."""
+        seed, room = self.seed, strip.bytes
         again = seed.count_black() if not data and method == rows.DELTA_ROW else 0
         if seed.is_white() or marks and y < strip.end and seed.fits(room):
             sent = WHOLE_ROW

@@ -15,8 +15,8 @@ import zlib
 
 from reasons import streams
 
-from . import happenings, png, remarks, sides
-from .explained import END, rows
+from . import happenings, png, program, remarks, sides
+from .explained import END, parts, text_of_transfer
 
 ROWS_IN_CHUNK, ENTRIES_IN_CHUNK, BYTES_IN_CHUNK = 500, 500, 1 << 20
 LEVEL = 4
@@ -26,9 +26,11 @@ IGNORED, SENDS, REPLIES, WRONG = 1, 2, 4, 8
 MOST_PICTURES = 500
 COLUMNS = ("step", "x", "y", "across", "down", "own", "stack", "page", "sheets")
 NONE = -1
+NOTHING_RUNS = ()
 
 
 as_json = json.JSONEncoder(separators=(",", ":")).encode
+as_text = json.JSONEncoder(separators=(",", ":"), ensure_ascii=False).encode
 
 
 def packed(data):
@@ -45,10 +47,10 @@ def column(numbers):
 
 
 def chunked(items, size):
-    """Values as chunks of JSON; they are taken one after another."""
+    """Values that are spelled as JSON as chunks of it; they are taken one after another."""
     items = iter(items)
     while some := list(itertools.islice(items, size)):
-        yield packed(json.dumps(some, ensure_ascii=False, separators=(",", ":")).encode())
+        yield packed(f"[{','.join(some)}]".encode())
 
 
 class FilmPage:
@@ -70,7 +72,7 @@ class FilmPage:
 
     def close(self, entry, page):
         """It closes in this entry; of its rows a hash is kept."""
-        self.last, self.hashes = entry, [hash(row) for row in page.rows]
+        self.last, self.hashes = entry, array.array("q", map(hash, page.rows))
         self.end()
 
     def end(self):
@@ -87,37 +89,47 @@ class Recorder:
     """Watches a run, and keeps what the page shows of each entry."""
 
     def __init__(self):
-        self.numbers = array.array("i")     # of each entry those of its columns
+        self.columns = {name: array.array("i") for name in COLUMNS}     # of each entry a number of each
         self.flags, self.pages, self.replies, self.fields, self.part = bytearray(), [], [], [], []
+        self.waiting = []     # entries whose numbers are not in the columns yet
         self.stacks = {}
         self.film_of = {}     # the page of the film, by its number among those that closed
         self.open = None
 
     def __call__(self, run, line, step):
-        entry, now = len(self.flags), run.fields.now
+        entry, stack = len(self.flags), NOTHING_RUNS
         self.follow_page(run, line, entry)
-        stack = tuple((body.name(), body.starter.offset) for body in step.stack) if step else ()
-        self.keep_columns(line["step"], now, step.placed.offset if stack else NONE, self.stacks.setdefault(stack, len(self.stacks)))
+        if step and step.stack:
+            stack = tuple((body.name(), body.starter.offset) for body in step.stack)
+        self.keep(line["step"], run.fields.now, step.placed.offset if stack else NONE, stack)
         self.flags.append(line["depth"] + 8 * ("delivered" in line) + 16 * ("reply" in line) + 32 * ("recorded" in line))
         if "reply" in line:
             self.replies.append([entry, remarks.readable(line["reply"].encode("latin-1"), 400)])
-        self.keep_fields(run, as_json(line.get("view", 0)))
+        self.keep_fields(run, as_json(line["view"]) if "view" in line else "0")
 
     def row(self, run, step, row, is_counted):
         """The same of a row within raster graphics."""
-        if row.patch:
+        if row.patch is not None:
             self.open.add(len(self.flags), row.patch.left, row.patch.top, row.patch.rows())
-        self.keep_columns(step, row.now, NONE, self.stacks.setdefault((), len(self.stacks)))
+        self.keep(step, row.now, NONE, NOTHING_RUNS)
         self.flags.append(0)
         self.keep_fields(run, '{"raster":{"rows":%d}}' % row.now.row_count if is_counted else "0")
 
-    def keep_columns(self, step, now, own, stack):
-        across, down = happenings.cursor_dot(now)
-        self.numbers.extend((step, now.x, now.y, across, down, own, stack, NONE if self.open is None else len(self.pages) - 1, now.total))
+    def keep(self, step, now, own, stack):
+        if stack not in self.stacks:
+            self.stacks[stack] = len(self.stacks)
+        self.waiting.append((step, now, own, self.stacks[stack], NONE if self.open is None else len(self.pages) - 1))
+        if len(self.waiting) == ENTRIES_IN_CHUNK:
+            self.keep_columns()
 
-    def columns(self):
-        """The numbers of all entries, by what they tell."""
-        return {name: self.numbers[place::len(COLUMNS)] for place, name in enumerate(COLUMNS)}
+    def keep_columns(self):
+        """The numbers of the entries that waited, column by column."""
+        steps, nows, own, stacks, some = zip(*self.waiting)
+        across, down = zip(*happenings.cursor_dots(nows))
+        told = (steps, [now.x for now in nows], [now.y for now in nows], across, down, own, stacks, some, [now.total for now in nows])
+        for column, numbers in zip(self.columns.values(), told):
+            column.extend(numbers)
+        self.waiting.clear()
 
     def follow_page(self, run, line, entry):
         patch = line.get("page", ())
@@ -145,6 +157,8 @@ class Recorder:
             self.part = []
 
     def end(self):
+        if self.waiting:
+            self.keep_columns()
         self.end_fields()
         if self.open is not None:
             self.open.end()
@@ -158,9 +172,13 @@ class Listing:
         self.starts, self.firsts = array.array("q"), array.array("i")
         self.entry, self.tally, self.seen = None, remarks.Tally(), streams.Seen(run)
 
+    def first_entry(self):
+        """That behind those of the front."""
+        return sum(1 + each.bodies for each in self.run.front)
+
     def note(self, offset, entries):
-        if self.entry is None:      # behind those of the front
-            self.entry = sum(1 + each.bodies for each in self.run.front)
+        if self.entry is None:
+            self.entry = self.first_entry()
         self.starts.append(offset + self.shift)
         self.firsts.append(self.entry)
         self.entry += entries
@@ -170,18 +188,28 @@ class Listing:
         self.seen.add(happening, met)
 
     def texts(self):
-        """Of each row, and of the end: text, place, how it is spelled, what it is, its effect, flags, and why it leaves no trace, in a few words."""
-        for row in rows(self.run, self.seen.judge, self.see):
-            place, spelled, what, effect = row.told
-            if row.met is None and type(row.happenings[0]) is happenings.Row:
-                self.note(row.offset, 1)
-                yield [shortened(row.text), place, spelled, what, effect, 0, ""]
+        """Of each row, and of the end, as JSON: text, place, how it is spelled, what it is, its effect, flags, and why it leaves no trace, in a few words."""
+        for row in parts(self.run, self.seen.judge, self.see):
+            if type(row) is list:
+                yield from self.transfers(row)
                 continue
+            place, spelled, what, effect = row.told
             self.note(row.offset, sum(1 + each.bodies for each in row.happenings))
             effect = shortened(cause_first(effect, row.because) if row.because else effect, LONGEST_REMARK)
-            yield [shortened(row.text), place, shortened(spelled, LONGEST_REMARK), shortened(what, LONGEST_REMARK), effect, flags_of(row), cause_of(row.met)]
+            yield as_text([shortened(row.text), place, shortened(spelled, LONGEST_REMARK), shortened(what, LONGEST_REMARK), effect, flags_of(row), cause_of(row.met)])
         self.note(len(self.run.stream), 1)
-        yield ["uel", str(len(self.run.stream)), "", END, remarks.effect_of(self.run.end), flags_of_end(self.run), ""]
+        yield as_text(["uel", str(len(self.run.stream)), "", END, remarks.effect_of(self.run.end), flags_of_end(self.run), ""])
+
+    def transfers(self, some):
+        """Those of rows within raster graphics, in whose texts nothing has to be escaped."""
+        if self.entry is None:
+            self.entry = self.first_entry()
+        self.starts.extend([row.offset + self.shift for row in some])
+        self.firsts.extend(range(self.entry, self.entry + len(some)))
+        self.entry += len(some)
+        for row in some:
+            spelled, what = remarks.row_named(row.field)
+            yield f'["{shortened(text_of_transfer(row))}","{row.offset}","{spelled}","{what}","{remarks.effect_of_row(row)}",0,""]'
 
     def row_of(self, place):
         """The row in which a byte of the stream stands."""
@@ -234,15 +262,15 @@ COUNTS = bytes(byte.bit_count() for byte in range(256))
 SHADES = bytes(png.PAPER - png.PAPER * min(black, 64) // 64 for black in range(256))    # by how many of 64 dots are black
 
 
-def side_value(run, recorder, number, data, each):
+def side_value(recorder, page, number, data, each):
     """What is shown of a side: what is told of it, its page of the film, what it has beyond that, and a picture."""
     told, sheet, name, copies = each
     header = png.HEADER.match(data)
     stride = (told.width + 7) // 8
     rows = [data[start:start + stride] for start in range(header.end(), len(data), stride)]
-    page = recorder.film_of.get(run.pages_of_sides()[number][0], NONE)
-    known = recorder.pages[page].hashes if page != NONE else [hash(bytes(stride))] * told.height
-    other = [line for line, row in enumerate(rows) if hash(row) != known[line]]
+    page = recorder.film_of.get(page, NONE)
+    known = recorder.pages[page].hashes if page != NONE else itertools.repeat(hash(bytes(stride)))
+    other = [line for line, (row, wanted) in enumerate(zip(rows, known)) if hash(row) != wanted]
     more = {"top": other[0], "rows": packed(b"".join(rows[other[0]:other[-1] + 1]))} if other else None
     times = f", {copies} copies" if copies > 1 else ""
     return {"label": f"Sheet {sheet} {name}{times}, {told.width} x {told.height} dots, {told.black} of them black", "sheet": sheet, "name": name,
@@ -257,15 +285,15 @@ def data_of(stream, front, chosen, name):
     texts = list(chunked(listed.texts(), ROWS_IN_CHUNK))
     recorder.end()
     findings = list(listed.findings(name))
-    starts, columns = listed.starts, recorder.columns()
+    starts, columns = listed.starts, recorder.columns
     columns["own"] = [NONE if offset < 0 else bisect.bisect_right(starts, offset) - 1 for offset in columns["own"]]
-    printed = [side_value(run, recorder, number, data, each)
-               for number, (data, each) in enumerate(zip(sides.packed_sides(run), listed.seen.sides.found))]
+    printed = [side_value(recorder, page, number, data, each)
+               for number, (data, each, page) in enumerate(zip(sides.packed_sides(run), listed.seen.sides.found, listed.seen.sides.pages))]
     return {
         "name": name,
         "facts": f"{remarks.plural(len(stream), 'byte')}, {remarks.plural(listed.tally.count(), 'command')}, "
                  f"{remarks.plural(sum(copies for _, _, _, copies in run.pages_of_sides()), 'side')}; "
-                 f"pages printed by {sides.who(run)}, steps told by {run.who}",
+                 f"pages printed by {program.who(run.chosen)}, steps told by {run.who}",
         "rows": {"count": len(starts), "size": ROWS_IN_CHUNK, "chunks": texts, "first": column(listed.firsts)},
         "entries": {"count": len(recorder.flags), "size": ENTRIES_IN_CHUNK, "columns": {key: column(some) for key, some in columns.items()},
                     "flags": packed(bytes(recorder.flags)), "fields": recorder.fields},

@@ -1,8 +1,6 @@
-"""The sides that a stream prints, each once: by the program; where there are too many copies, by the model in Python."""
+"""The sides that a stream prints, each once: by the program; where there are too many copies, through pipes."""
 
 from typing import NamedTuple
-
-from model import pbm, runs
 
 from . import listing, png, program
 from .pages_of import RESOLUTIONS
@@ -20,28 +18,13 @@ class Side(NamedTuple):
     resolution: int   # in dots per inch
 
 
-def who(run):
-    """Who prints the sides of a run."""
-    files = sum(copies for _, _, _, copies in run.pages_of_sides())
-    return f"the model in Python, since the copies have {files} sides" if files > MOST_FILES else program.who(run.chosen)
-
-
 def packed_sides(run):
-    """The P4 file of each side of a run, one after another."""
-    if who(run) == program.who(run.chosen):
-        yield from printed(run)
-        return
-    wanted = {(number, name) for _, number, name, _ in run.pages_of_sides()}
-    for number, sheet in enumerate(runs.run_stream(run.whole).sheets, 1):
-        yield from (pbm.bytes_of_rows(side.physical_rows()) for name, side in sheet.sides() if (number, name) in wanted)
-
-
-def printed(run):
-    """The program's files, without copies; where they are others than its trace says, nothing is shown."""
-    places = list(places_of_files(run.pages_of_sides()))
-    files = 0
-    for files, data in enumerate(program.printed_sides(run.whole, run.chosen), 1):
-        if files <= len(places) and places[files - 1] not in places[:files - 1]:
+    """The P4 file of each side of a run, one after another, without copies; where the program's files are others than its trace says, nothing is shown."""
+    places, files, seen = list(places_of_files(run.pages_of_sides())), 0, set()
+    some = program.printed_sides(run.whole, run.chosen) if len(places) <= MOST_FILES else program.piped_sides(run.whole, len(places), run.chosen)
+    for files, data in enumerate(some, 1):
+        if files <= len(places) and places[files - 1] not in seen:
+            seen.add(places[files - 1])
             yield data
     if files != len(places):
         raise ValueError(f"press print made {files} files, and the trace has {len(places)} sides")
@@ -49,7 +32,7 @@ def printed(run):
 
 def sides_of(run):
     """The sides of a run, and who printed them."""
-    return [side_of(png.read_p4(data), *each) for data, each in zip(packed_sides(run), listing.sides(run))], who(run)
+    return [side_of(png.read_p4(data), *each) for data, each in zip(packed_sides(run), listing.sides(run))], program.who(run.chosen)
 
 
 def side_of(page, told, number, name, copies):
