@@ -44,6 +44,7 @@ impl State {
     }
 
     /// Carries a row out where it does no more than change the state, and answers whether it does.
+    #[inline(always)]
     fn change_by(
         &mut self,
         alloc: Global,

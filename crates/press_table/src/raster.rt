@@ -130,10 +130,9 @@ impl State {
             .patterns
             .brush(pattern, mode)
             .unwrap_or(Brush::black(mode));
-        let environment = self.environment;
         self.graphics.transfer(
             &mut page,
-            &environment,
+            &self.environment,
             &mut self.cursor,
             settings,
             &brush,
