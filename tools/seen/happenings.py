@@ -26,7 +26,7 @@ OTHER_KIND = (ord("*"), ord("b"), ord("W"))
 HEAD = re.compile(rb"(?:\x1b\*b)?([^Ww]*)[Ww]")     # of a row, and its value
 
 
-MOST_JOINED = 256    # rows
+MOST_JOINED, LEAST_SIZE = 1 << 17, 1 << 9    # bytes of what rows change, as they are spelled; and of a row that changes nothing
 # Kinds that do no more than set fields, where nothing else is told.
 PLAIN = {f"par {letters}" for letters in ("*bM", "*pX", "*pY", "&aC", "&aR", "&aH", "&aV", "*cA", "*cB", "*cH", "*cV", "*cG", "*vT", "*vN", "*vO", "*tR",
                                           "*rS", "*rT")}
@@ -246,7 +246,7 @@ class Run:
         return self.happenings(True)
 
     def happenings(self, joins):
-        alone, quick, some, before = False, self.watch is None or self.watch_row is not None, [], False
+        alone, quick, some, before, size = False, self.watch is None or self.watch_row is not None, [], False, 0
         while True:
             text = self.next_text()
             if quick and (found := ROW.fullmatch(text)) and (self.fields.now.base is self.base or self.takes_rows()):
@@ -254,9 +254,10 @@ class Run:
                 whole = joins and row.sent is sent.WHOLE_ROW and row.before.is_other(row.now)
                 if whole and before:
                     some.append(row)
-                if some and (len(some) == MOST_JOINED or not whole):
+                    size += LEAST_SIZE if row.patch is None else len(row.patch.spelled)
+                if some and (size > MOST_JOINED or not whole):
                     yield joined(some)
-                    some = []
+                    some, size = [], 0
                 if not whole or not before:
                     yield row
                 before = whole
@@ -264,7 +265,7 @@ class Run:
             before = False
             if some:
                 yield joined(some)
-                some = []
+                some, size = [], 0
             if self.row_read is not None:
                 self.leave_rows()
             line = traced.told(text)

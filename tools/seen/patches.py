@@ -1,12 +1,13 @@
 """Pages as the lines of a trace tell them: a white page, and patches that are laid over it."""
 
+import collections
 import json
 from binascii import unhexlify
 
 from .printable import printable
 
 
-MOST_WAITING = 4096    # patches of a page that wait to be laid over it
+MOST_WAITING = 1 << 24  # bytes, as they are spelled, of patches of a page that wait to be laid over it
 BETWEEN = b'","'       # what stands between the rows of a patch in a line
 
 
@@ -47,7 +48,7 @@ class Page:
     def __init__(self, width, height):
         self.width = width
         self.height = height
-        self.laid, self.waiting = [bytes(-(-width // 8))] * height, []
+        self.laid, self.waiting, self.size = [bytes(-(-width // 8))] * height, collections.deque(), 0
 
     @property
     def rows(self):
@@ -56,15 +57,17 @@ class Page:
         return self.laid
 
     def lay_waiting(self):
-        waiting, self.waiting = self.waiting, []
-        for patch in waiting:
+        self.size = 0
+        while self.waiting:
+            patch = self.waiting.popleft()      # held no longer than somebody else holds it
             patch.old = replaced(self.laid, patch.left, patch.top, patch.rows())
 
     def lay_later(self, left, top, spelled):
         """A patch that is laid when the rows are asked for."""
-        patch, waiting = Patch(self, left, top, spelled), self.waiting
-        waiting.append(patch)
-        if len(waiting) > MOST_WAITING:
+        patch = Patch(self, left, top, spelled)
+        self.waiting.append(patch)
+        self.size += len(spelled)
+        if self.size > MOST_WAITING:
             self.lay_waiting()
         return patch
 
