@@ -23,7 +23,7 @@ TOUCHED = {
         crates/press_rows/src/decoder.rt crates/press_rows/src/encoder.rt crates/press_rows/src/blocks.rt crates/press_raster/specs/Settings.antt
         crates/press_raster/specs/Rows.antt crates/press_raster/src/settings.rt crates/press_raster/src/drawing.rt crates/press_writer/specs/Picture.antt
         tools/model/rows.py tools/model/marks.py tools/model/table.py tools/model/streams.py tools/model/switches/raster.py tools/asked/pages.py
-        docs/DEFINITIONS.md docs/PROVED.md""",
+        docs/DEFINITIONS.md""",
     "HoldQueueEntry": """
         crates/press_queue/specs/Legal.antt crates/press_queue/specs/Rows.antt crates/press_queue/src/queue.rt crates/press_queue/src/command.rt
         crates/press_core/specs/Messages.antt crates/press_core/specs/Rows.antt crates/press_core/src/message_type.rt crates/press_core/src/commands.rt
