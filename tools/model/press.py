@@ -17,8 +17,8 @@ ENTRY = ["QueueEntryID"]
 PARAMETERS = {
     "SubmitQueueEntry": ["Ticket", "|", "Priority"],
     "HoldQueueEntry": ENTRY,
-    "SuspendQueueEntry": ENTRY,
     "ResumeQueueEntry": ENTRY,
+    "SuspendQueueEntry": ENTRY,
     "AbortQueueEntry": ENTRY,
     "RemoveQueueEntry": ENTRY,
     "SetQueueEntryPriority": ENTRY + ["Priority"],

@@ -35,17 +35,6 @@ SWITCHES = [
     switch("sums-without-headers", "A digest is that of the whole file of a side.", "pages", "hashlib.sha256(pbm.bytes_of_side(side))", "hashlib.sha256(pbm.bytes_of_side(side)[3:])"),
     switch("sums-of-fronts", "A digest is that of its own side.", "pages", "for sheet in sheets for _, side in sheet.sides()]", "for sheet in sheets for side in [sheet.front] * 2]"),
     switch("sides-padded-with-ones", "The rows of a file are padded with zeros.", "pbm", "    blank = bytes(row_bytes)\n", "    blank = bytes(row_bytes - 1) + (b\"\\x3f\" if width % 8 else b\"\\0\")\n"),
-    # tables
-    switch("tables-in-one-line", "The tables stand in a line each.", "tables", '",\\n".join', '", ".join'),
-    switch("tables-without-tables", "The subcommands are all there are.", "tables", ', "press", "tables"]', ', "press"]'),
-    switch("tables-by-number", "Page sizes stand in the order of PAPER.", "tables", "    return [{", "    words.sort(key=lambda word: numbers[by_word[word].name])\n    return [{"),
-    switch("tables-height-first", "A page size has its width and its height.", "tables", '"width": by_word[word].width, "height": by_word[word].height', '"width": by_word[word].height, "height": by_word[word].width'),
-    switch("tables-sizes-as-they-are-called", "A page size has the name that PAPER has for it.", "tables", '"name": word,', '"name": word.capitalize(),'),
-    switch("tables-without-numbers", "A page size has the number of its command.", "tables", '"number": numbers[by_word[word].name]', '"number": words.index(word)'),
-    switch("tables-with-adaptive", "The methods are those of one row.", "tables", "METHODS = [0, 1, 2, 3] ", "METHODS = [0, 1, 2, 3, 5] "),
-    switch("tables-of-factory-values", "A variable is told by its name.", "tables", "[name.decode() for name in pjl.FACTORY]", "[name.decode() for name in pjl.FACTORY.values()]"),
-    switch("tables-of-all-faults", "The faults are those that the program tells.", "tables", "302, 304, 401", "302, 303, 304, 305, 401"),
-    switch("tables-without-status", "The messages are all there are.", "tables", '"messages": list(press.PARAMETERS)', '"messages": [kind for kind in press.PARAMETERS if kind != "Status"]'),
     # asm, disasm, write
     switch("asm-makes-its-file-first", "A text is assembled before its file is made.", "program", "        self.make(target, self.assembled(self.read(source)), TEXT_FAULT)\n", "        text = self.read(source)\n        self.make(target, b\"\", TEXT_FAULT)\n        self.make(target, self.assembled(text), TEXT_FAULT)\n"),
     switch("asm-of-any-bytes", "A line that is no UTF-8 is a bad one.", "program", "next((place for place, line in enumerate(lines) if not is_utf8(line)), len(lines))", "len(lines)", "program", 'b"\\n".join(lines[:good]).decode())', 'b"\\n".join(lines[:good]).decode(errors="replace"))'),
