@@ -2,7 +2,7 @@
 use Rattle.std.proofs.Common.{Bor, ◌≡◌, ◌⊎◌, ◌∙◌, ℕ, zero, suc, List, [], ◌∷◌, Option, Some, None, refl, ap, subst, inl, inr}
 use Rattle.std.specs.Fmt.{option_append}
 use Rattle.clap.specs.Words.{Text}
-use Rattle.press_files.specs.Change.{Change}
+use Rattle.press_files.specs.Change.{Change, Changes}
 use Rattle.press_files.specs.Edge.{Edge, Inputs, MakesNothing, ReadsNothing}
 use Rattle.press_sink.specs.Faults.{sink_number}
 use Rattle.press_sink.specs.Template.{IsSideName}
@@ -22,7 +22,7 @@ use Rattle.press_words.specs.declared.words.Refusal.{Refusal}
 use Rattle.press_words.specs.declared.words.Refusal.TheVariants as refusals
 use Rattle.press_words.specs.Defaults.{HoldsBehind, with_prefix}
 use Rattle.press_words.specs.Words.{Source, Standard, FileNamed, Arguments}
-use Rattle.press_files.specs.Files.{DoesNothing}
+use Rattle.press_files.specs.Files.{BeginsNothing, DoesNothing}
 use Rattle.press_sessions.specs.Debugging.{IsUnopened}
 use Rattle.press_sessions.specs.Ends.{DebuggingOf}
 use Rattle.press_sessions.specs.declared.debugging.DebugError.{DebugError}
@@ -65,11 +65,11 @@ tries-nothing SinkFault asked inputs status before after own nothing = inr (inl 
 tries-nothing NoMemory asked inputs status before after own nothing = inr (inr nothing)
 
 -- that of an input that is not opened
-pub opens-nothing : (error : InputError) (missing : Type 0) (status : ℕ) (before after : Edge) → (error ≡ input_fault.ReadFault → missing)
-    → DoesNothing (input_number error) status before after
-    → (missing × DoesNothing (Some read_fault) status before after) ⊎ DoesNothing None status before after
-opens-nothing input_fault.ReadFault missing status before after own nothing = inl (own refl, nothing)
-opens-nothing input_fault.NoMemory missing status before after own nothing = inr nothing
+pub opens-nothing : (error : InputError) (missing : Type 0) (status : ℕ) (changes : Changes) → (error ≡ input_fault.ReadFault → missing)
+    → BeginsNothing (input_number error) status changes
+    → (missing × BeginsNothing (Some read_fault) status changes) ⊎ BeginsNothing None status changes
+opens-nothing input_fault.ReadFault missing status changes own nothing = inl (own refl, nothing)
+opens-nothing input_fault.NoMemory missing status changes own nothing = inr nothing
 
 -- ---- bytes in front
 

@@ -1,22 +1,26 @@
 use Rattle.std.proofs.Common.{None, refl, inl, inr, arith}
-use Rattle.press_devices.specs.Reading.{ReadFails}
-use Rattle.press_files.specs.Change.{change}
-use Rattle.press_sessions.specs.Ends.{DebuggingOf}
+use Rattle.press_files.specs.Edge.{edge}
 use Rattle.press_sessions.specs.declared.debugging.DebugError.TheVariants.{Input}
 use Rattle.press_main.proofs.ProgramLemmas.{behind-some, debugging-closed, unopened}
 use Rattle.press_main.proofs.program.debug_file.Goals as goal
 
 pub returns-in-Ok-clause-debugs : goal.returns-in-Ok-clause-debugs
 returns-in-Ok-clause-debugs g c =
-    let some = behind-some c.args.prefix.now _ _ _ (rw c.in-Ok.ensures.bytes at c.debug_behind-file.ensures.debugs) in
-    (some.0, debugging-closed _ _ _ _ _ _ _ (λ fails. c.close.ensures.1 (inr fails)) some.1)
+    let debugged = c.debug_behind-file in
+    let some = behind-some c.args.prefix.now _ _ _ (rw c.in-Ok.ensures.bytes at debugged.ensures.debugs) in (
+      some.0,
+      debugging-closed _ _ _ _ _ (edge g.R.ReadDevice c.args.reader.now c.args.devices.now) (edge g.R.ReadDevice debugged.new.reader debugged.new.devices)
+          (λ fails. c.close.ensures.1 (inr fails)) some.1,
+    )
 
 pub returns-in-Err-clause-debugs : goal.returns-in-Err-clause-debugs
 returns-in-Err-clause-debugs g c = (
   None,
-  record {
-    done = λ zero. absurd (omega (arith, c.report.ensures.status, zero));
-    stops = λ other. (c.report.ensures.status, Input c.in-Err.error, c.report.ensures.told, inl (unopened c.in-Err.error _ _ (λ is _. c.in-Err.ensures.missing is), refl, refl));
-  },
-  refl,
+  (
+    record {
+      done = λ zero. absurd (omega (arith, c.report.ensures.status, zero));
+      stops = λ other. (c.report.ensures.status, Input c.in-Err.error, c.report.ensures.told, inl (unopened c.in-Err.error _ _ (λ is _. c.in-Err.ensures.missing is), refl, refl));
+    },
+    refl,
+  ),
 )

@@ -32,5 +32,5 @@ returns-in-Ok-clause-performs g c =
 pub returns-in-Err-clause-performs : goal.returns-in-Err-clause-performs
 returns-in-Err-clause-performs g c =
     of-file _ _ (Tries (request_seen c.args.request.now) _) _ _ _ c.in-File.name.now (ap source_seen c.in-File.is)
-    (inr (opens-nothing c.in-Err.error _ _ _ _ (λ is _. c.in-Err.ensures.missing is)
+    (inr (opens-nothing c.in-Err.error _ _ _ (λ is _. c.in-Err.ensures.missing is)
     (record { answers = c.report.ensures.status; told = c.report.ensures.told; unread = refl; unwritten = refl; unmade = refl })))
