@@ -1,7 +1,11 @@
 -- What is around the program: what it reads and writes, and what it is told and makes.
 use Rattle.std.specs.Prelude.{◌≡◌, ℕ, List, Option, Bool, true}
 use Rattle.press_devices.specs.Reading.{ReadFails, SomeFails}
-use Rattle.press_devices.specs.declared.reading.ReadDevice.{Ghosts as Reader}
+use Rattle.press_devices.specs.declared.reading.ReadDevice.{Ghosts as Reads}
+use Rattle.press_devices.specs.declared.writing.WriteDevice.{Ghosts as Writes}
+use Rattle.press_sink.specs.declared.named_outputs.NamedOutputs.{Ghosts as Makes}
+use Rattle.press_telling.specs.declared.telling.Teller.{Ghosts as Tells}
+use Rattle.press_files.specs.declared.named_inputs.NamedInputs.{Ghosts as Opens}
 use Rattle.press_sink.specs.Outputs.{MadeOutput}
 use Rattle.press_files.specs.Causes.{Failures, failures}
 use Rattle.press_files.specs.Change.{Changes, around}
@@ -24,9 +28,9 @@ pub record Edge : Type 0 where
   pub holds : Bool
   pub spoiled : Bool
 
--- the edge of a reader and of the devices beside it
-abbrev pub edge : {R I X O Y W E : Type 0} {i x o y w e : _} → Reader R → R → Devices I X O Y W E i x o y w e → Edge
-edge {i = i} {o = o} {w = w} {e = e} r reader devices = record {
+-- the edge of a reader and of the devices beside it, by what their types tell of them
+abbrev pub edge : {R I X O Y W E : Type 0} → Reads R → Opens I X → Makes O Y → Writes W → Tells E → R → Devices I O W E → Edge
+edge r i o w e reader devices = record {
   unread = r.remaining reader;
   failed = r.failed reader;
   reads = r.reads reader;
@@ -50,8 +54,8 @@ pub record Inputs : Type 1 where
   pub present : List ℕ → Type 0
 
 -- those of devices
-abbrev pub inputs_of : {I X O Y W E : Type 0} {i x o y w e : _} → Devices I X O Y W E i x o y w e → Inputs
-inputs_of {i = i} {x = x} devices = record {
+abbrev pub inputs_of : {I X O W E : Type 0} → Reads X → Opens I X → Devices I O W E → Inputs
+inputs_of x i devices = record {
   named = named (SomeFails x.failed x.reads) (i.bytes devices.inputs) (i.missing devices.inputs);
   present = i.present devices.inputs;
 }

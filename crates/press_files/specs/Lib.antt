@@ -19,4 +19,3 @@ pub mod NamedInputs
 pub mod Numbering
 pub mod PagesKept
 pub mod Printing
-pub mod Seen

@@ -41,8 +41,10 @@ pub fn print_files<R: ReadDevice, I: NamedInputs, O: NamedOutputs, W: WriteDevic
         → W.waiting devices.new.out ≡ false }
     ensures through { result ≡ 0
         → O.waiting devices.new.outputs ≡ O.waiting devices.old.outputs }
-    ensures prints { PrintsFiles front.now template.now result
-        (edge R.ReadDevice reader.old devices.old) (edge R.ReadDevice reader.new devices.new) }
+    ensures prints { let edge = edge R.ReadDevice I.NamedInputs O.NamedOutputs
+        W.WriteDevice E.Teller in
+        PrintsFiles front.now template.now result
+        (edge reader.old devices.old) (edge reader.new devices.new) }
 {
     let Devices {
         outputs,

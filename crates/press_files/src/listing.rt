@@ -44,8 +44,10 @@ pub fn print_list<R: ReadDevice, I: NamedInputs, O: NamedOutputs, W: WriteDevice
         (front.now ++ bytes) (W.contents devices.old.out) (W.contents devices.new.out)) }
     ensures flushed { result ≡ 0 → W.waiting devices.new.out ≡ false }
     ensures through { O.waiting devices.new.outputs ≡ O.waiting devices.old.outputs }
-    ensures printed { PrintsListing front.now result
-        (edge R.ReadDevice reader.old devices.old) (edge R.ReadDevice reader.new devices.new) }
+    ensures printed { let edge = edge R.ReadDevice I.NamedInputs O.NamedOutputs
+        W.WriteDevice E.Teller in
+        PrintsListing front.now result
+        (edge reader.old devices.old) (edge reader.new devices.new) }
 {
     let Devices { out, err, .. } = devices;
     let (_, status) = list_by::<R, W, E, Brand>(alloc, front, false, reader, out, err);
@@ -65,8 +67,10 @@ pub fn print_sums<R: ReadDevice, I: NamedInputs, O: NamedOutputs, W: WriteDevice
         (front.now ++ bytes) (W.contents devices.old.out) (W.contents devices.new.out)) }
     ensures flushed { result ≡ 0 → W.waiting devices.new.out ≡ false }
     ensures through { O.waiting devices.new.outputs ≡ O.waiting devices.old.outputs }
-    ensures printed { PrintsSums front.now result
-        (edge R.ReadDevice reader.old devices.old) (edge R.ReadDevice reader.new devices.new) }
+    ensures printed { let edge = edge R.ReadDevice I.NamedInputs O.NamedOutputs
+        W.WriteDevice E.Teller in
+        PrintsSums front.now result
+        (edge reader.old devices.old) (edge reader.new devices.new) }
 {
     let Devices { out, err, .. } = devices;
     let (_, status) = list_by::<R, W, E, Brand>(alloc, front, true, reader, out, err);

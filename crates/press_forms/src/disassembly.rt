@@ -27,8 +27,10 @@ pub fn disasm_bytes<R: ReadDevice, I: NamedInputs, O: NamedOutputs, W: WriteDevi
 ) -> u8
     ensures flushed { result ≡ 0 → W.waiting devices.new.out ≡ false }
     ensures through { O.waiting devices.new.outputs ≡ O.waiting devices.old.outputs }
-    ensures ended { Disassembling result
-        (edge R.ReadDevice reader.old devices.old) (edge R.ReadDevice reader.new devices.new) }
+    ensures ended { let edge = edge R.ReadDevice I.NamedInputs O.NamedOutputs
+        W.WriteDevice E.Teller in
+        Disassembling result
+        (edge reader.old devices.old) (edge reader.new devices.new) }
 {
     match disassemble_to(alloc, reader, &mut devices.out) {
         Ok(()) => 0,

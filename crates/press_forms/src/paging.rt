@@ -118,8 +118,10 @@ pub fn page_file<R: ReadDevice, I: NamedInputs, O: NamedOutputs, W: WriteDevice,
     ensures flushed { W.waiting devices.new.out ≡ W.waiting devices.old.out }
     ensures through { result ≡ 0
         → O.waiting devices.new.outputs ≡ O.waiting devices.old.outputs }
-    ensures pages { Paging steps name.now result
-        (edge R.ReadDevice reader.old devices.old) (edge R.ReadDevice reader.new devices.new) }
+    ensures pages { let edge = edge R.ReadDevice I.NamedInputs O.NamedOutputs
+        W.WriteDevice E.Teller in
+        Paging steps name.now result
+        (edge reader.old devices.old) (edge reader.new devices.new) }
 {
     match make_page(alloc, reader, steps, &mut devices.outputs, name) {
         Ok(taken) => {

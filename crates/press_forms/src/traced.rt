@@ -19,8 +19,10 @@ pub fn tell_trace<R: ReadDevice, I: NamedInputs, O: NamedOutputs, W: WriteDevice
 ) -> u8
     ensures flushed { result ≡ 0 → W.waiting devices.new.out ≡ false }
     ensures through { O.waiting devices.new.outputs ≡ O.waiting devices.old.outputs }
-    ensures traces { Tracing result
-        (edge R.ReadDevice reader.old devices.old) (edge R.ReadDevice reader.new devices.new) }
+    ensures traces { let edge = edge R.ReadDevice I.NamedInputs O.NamedOutputs
+        W.WriteDevice E.Teller in
+        Tracing result
+        (edge reader.old devices.old) (edge reader.new devices.new) }
 {
     tell_by(LineOf::Step, alloc, reader, devices)
 }
@@ -35,8 +37,10 @@ pub fn tell_by<R: ReadDevice, I: NamedInputs, O: NamedOutputs, W: WriteDevice, E
 ) -> u8
     ensures flushed { result ≡ 0 → W.waiting devices.new.out ≡ false }
     ensures through { O.waiting devices.new.outputs ≡ O.waiting devices.old.outputs }
-    ensures traces { TracingBy by result
-        (edge R.ReadDevice reader.old devices.old) (edge R.ReadDevice reader.new devices.new) }
+    ensures traces { let edge = edge R.ReadDevice I.NamedInputs O.NamedOutputs
+        W.WriteDevice E.Teller in
+        TracingBy by result
+        (edge reader.old devices.old) (edge reader.new devices.new) }
 {
     match trace_by(by, alloc, reader, &mut devices.out) {
         Ok(()) => 0,

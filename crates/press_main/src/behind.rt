@@ -106,8 +106,10 @@ pub(crate) fn trace_behind<
     ensures same { result.0.ghost_name ≡ reader.entry.ghost_name }
     ensures flushed { result.1 ≡ 0 → W.waiting devices.new.out ≡ false }
     ensures through { O.waiting devices.new.outputs ≡ O.waiting devices.old.outputs }
-    ensures traces { Behind prefix.now (TracingBy by result.1)
-        (edge R.ReadDevice reader.old devices.old) (edge R.ReadDevice result.0.now devices.new) }
+    ensures traces { let edge = edge R.ReadDevice I.NamedInputs O.NamedOutputs
+        W.WriteDevice E.Teller in
+        Behind prefix.now (TracingBy by result.1)
+        (edge reader.old devices.old) (edge result.0.now devices.new) }
 {
     let mut stream: Stream<'_, 'r, R, D> = Stream::new(prefix, reader);
     let status = tell_by(by, alloc, &mut stream, devices);
@@ -138,8 +140,10 @@ pub(crate) fn page_behind<
     ensures flushed { W.waiting devices.new.out ≡ W.waiting devices.old.out }
     ensures through { result.1 ≡ 0
         → O.waiting devices.new.outputs ≡ O.waiting devices.old.outputs }
-    ensures pages { Behind prefix.now (Paging steps name.now.now result.1)
-        (edge R.ReadDevice reader.old devices.old) (edge R.ReadDevice result.0.now devices.new) }
+    ensures pages { let edge = edge R.ReadDevice I.NamedInputs O.NamedOutputs
+        W.WriteDevice E.Teller in
+        Behind prefix.now (Paging steps name.now.now result.1)
+        (edge reader.old devices.old) (edge result.0.now devices.new) }
 {
     let mut stream: Stream<'_, 'r, R, D> = Stream::new(prefix, reader);
     let status = page_file(alloc, steps, name, &mut stream, devices);
@@ -165,10 +169,12 @@ pub(crate) fn debug_behind<
     ensures flushed { result.1 ≡ 0 → W.waiting devices.old.out ≡ false
         → W.waiting devices.new.out ≡ false }
     ensures through { O.waiting devices.new.outputs ≡ O.waiting devices.old.outputs }
-    ensures debugs { HoldsBehind prefix.now (S.remaining file) (S.remaining result.0)
+    ensures debugs { let edge = edge R.ReadDevice I.NamedInputs O.NamedOutputs
+        W.WriteDevice E.Teller in
+        HoldsBehind prefix.now (S.remaining file) (S.remaining result.0)
         (λ had left. DebuggingOf ⊥ (ReadFails (S.failed result.0) (S.reads result.0))
         (change had left) result.1
-        (edge R.ReadDevice reader.old devices.old) (edge R.ReadDevice reader.new devices.new)) }
+        (edge reader.old devices.old) (edge reader.new devices.new)) }
 {
     let (_, status) = debug_lent::<S, R, I, O, W, E, Brand>(
         alloc, prefix, &mut file, reader, devices,
@@ -199,10 +205,12 @@ fn debug_lent<
     ensures flushed { result.1 ≡ 0 → W.waiting devices.old.out ≡ false
         → W.waiting devices.new.out ≡ false }
     ensures through { O.waiting devices.new.outputs ≡ O.waiting devices.old.outputs }
-    ensures debugs { HoldsBehind prefix.now (S.remaining file.old) (S.remaining result.0.now)
+    ensures debugs { let edge = edge R.ReadDevice I.NamedInputs O.NamedOutputs
+        W.WriteDevice E.Teller in
+        HoldsBehind prefix.now (S.remaining file.old) (S.remaining result.0.now)
         (λ had left. DebuggingOf ⊥ (ReadFails (S.failed result.0.now) (S.reads result.0.now))
         (change had left) result.1
-        (edge R.ReadDevice reader.old devices.old) (edge R.ReadDevice reader.new devices.new)) }
+        (edge reader.old devices.old) (edge reader.new devices.new)) }
 {
     let mut stream: Stream<'_, 'r, S, D> = Stream::new(prefix, file);
     let status = debug_lines(alloc, &mut stream, reader, devices);

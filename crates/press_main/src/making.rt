@@ -35,8 +35,10 @@ pub fn asm_file<R: ReadDevice, I: NamedInputs, O: NamedOutputs, W: WriteDevice, 
     ensures flushed { W.waiting devices.new.out ≡ W.waiting devices.old.out }
     ensures through { result ≡ 0
         → O.waiting devices.new.outputs ≡ O.waiting devices.old.outputs }
-    ensures ended { Assembling name.now result
-        (edge R.ReadDevice reader.old devices.old) (edge R.ReadDevice reader.new devices.new) }
+    ensures ended { let edge = edge R.ReadDevice I.NamedInputs O.NamedOutputs
+        W.WriteDevice E.Teller in
+        Assembling name.now result
+        (edge reader.old devices.old) (edge reader.new devices.new) }
 {
     match make_stream(alloc, reader, &mut devices.outputs, name) {
         Ok(()) => 0,
@@ -77,10 +79,12 @@ pub fn job_file<T: ReadDevice, I: NamedInputs, O: NamedOutputs, W: WriteDevice, 
     ensures flushed { W.waiting devices.new.out ≡ W.waiting devices.old.out }
     ensures through { result ≡ 0
         → O.waiting devices.new.outputs ≡ O.waiting devices.old.outputs }
-    ensures ended { WritingOf name.now
+    ensures ended { let edge = edge T.ReadDevice I.NamedInputs O.NamedOutputs
+        W.WriteDevice E.Teller in
+        WritingOf name.now
         (map (λ name. named (SomeFails I.Input.failed I.Input.reads)
         (I.bytes devices.old.inputs) (I.missing devices.old.inputs) name.now) names.now) result
-        (edge T.ReadDevice ticket.old devices.old) (edge T.ReadDevice ticket.new devices.new) }
+        (edge ticket.old devices.old) (edge ticket.new devices.new) }
 {
     let Devices {
         inputs,

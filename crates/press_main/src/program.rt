@@ -36,8 +36,10 @@ pub fn run_words<S: ReadDevice, I: NamedInputs, O: NamedOutputs, W: WriteDevice,
         → W.waiting devices.new.out ≡ false }
     ensures through { result ≡ 0
         → O.waiting devices.new.outputs ≡ O.waiting devices.old.outputs }
-    ensures runs { Runs (map string_bytes words.now) (inputs_of devices.old) result
-        (edge S.ReadDevice input.old devices.old) (edge S.ReadDevice input.new devices.new) }
+    ensures runs { let edge = edge S.ReadDevice I.NamedInputs O.NamedOutputs
+        W.WriteDevice E.Teller in
+        Runs (map string_bytes words.now) (inputs_of I.Input.ReadDevice I.NamedInputs devices.old) result
+        (edge input.old devices.old) (edge input.new devices.new) }
 {
     let Ok(texts) = texts_of(alloc, words) else {
         return report(&NO_MEMORY, &mut devices.err);
@@ -70,10 +72,12 @@ fn refuse<S: ReadDevice, I: NamedInputs, O: NamedOutputs, W: WriteDevice, E: Tel
 ) -> u8
     ensures flushed { result ≡ 0 → W.waiting devices.new.out ≡ false }
     ensures outputs { devices.new.outputs ≡ devices.old.outputs }
-    ensures refuses { RefusesBy (status_of refusal.now) result
-        (edge S.ReadDevice input.now devices.old) (edge S.ReadDevice input.now devices.new)
+    ensures refuses { let edge = edge S.ReadDevice I.NamedInputs O.NamedOutputs
+        W.WriteDevice E.Teller in
+        RefusesBy (status_of refusal.now) result
+        (edge input.now devices.old) (edge input.now devices.new)
         ⊎ RefusesBy 1 result
-        (edge S.ReadDevice input.now devices.old) (edge S.ReadDevice input.now devices.new) }
+        (edge input.now devices.old) (edge input.now devices.new) }
 {
     match refusal.status() {
         0 => write_help(alloc, refusal, input, devices),
@@ -94,10 +98,12 @@ fn write_help<S: ReadDevice, I: NamedInputs, O: NamedOutputs, W: WriteDevice, E:
 ) -> u8
     ensures flushed { result ≡ 0 → W.waiting devices.new.out ≡ false }
     ensures outputs { devices.new.outputs ≡ devices.old.outputs }
-    ensures refuses { RefusesBy 0 result
-        (edge S.ReadDevice input.now devices.old) (edge S.ReadDevice input.now devices.new)
+    ensures refuses { let edge = edge S.ReadDevice I.NamedInputs O.NamedOutputs
+        W.WriteDevice E.Teller in
+        RefusesBy 0 result
+        (edge input.now devices.old) (edge input.now devices.new)
         ⊎ RefusesBy 1 result
-        (edge S.ReadDevice input.now devices.old) (edge S.ReadDevice input.now devices.new) }
+        (edge input.now devices.old) (edge input.now devices.new) }
 {
     let Ok(text) = format!(in alloc; "{help}") else {
         return report(&NO_MEMORY, &mut devices.err);
@@ -113,8 +119,10 @@ fn write_text<S: ReadDevice, I: NamedInputs, O: NamedOutputs, W: WriteDevice, E:
 ) -> u8
     ensures flushed { result ≡ 0 → W.waiting devices.new.out ≡ false }
     ensures outputs { devices.new.outputs ≡ devices.old.outputs }
-    ensures writes { WritesText text.now result
-        (edge S.ReadDevice _input.now devices.old) (edge S.ReadDevice _input.now devices.new) }
+    ensures writes { let edge = edge S.ReadDevice I.NamedInputs O.NamedOutputs
+        W.WriteDevice E.Teller in
+        WritesText text.now result
+        (edge _input.now devices.old) (edge _input.now devices.new) }
 {
     match write_flushed(&mut devices.out, text.as_bytes()) {
         Ok(()) => 0,
@@ -133,9 +141,11 @@ fn perform<S: ReadDevice, I: NamedInputs, O: NamedOutputs, W: WriteDevice, E: Te
         → W.waiting devices.new.out ≡ false }
     ensures through { result ≡ 0
         → O.waiting devices.new.outputs ≡ O.waiting devices.old.outputs }
-    ensures performs { OfInput (request_seen request.now).source (inputs_of devices.old)
-        (Tries (request_seen request.now) (inputs_of devices.old)) result
-        (edge S.ReadDevice input.old devices.old) (edge S.ReadDevice input.new devices.new) }
+    ensures performs { let edge = edge S.ReadDevice I.NamedInputs O.NamedOutputs
+        W.WriteDevice E.Teller in
+        OfInput (request_seen request.now).source (inputs_of I.Input.ReadDevice I.NamedInputs devices.old)
+        (Tries (request_seen request.now) (inputs_of I.Input.ReadDevice I.NamedInputs devices.old)) result
+        (edge input.old devices.old) (edge input.new devices.new) }
 {
     match request.input {
         Input::Standard => try_making(alloc, request, input, devices),
@@ -161,8 +171,10 @@ fn try_making<R: ReadDevice, I: NamedInputs, O: NamedOutputs, W: WriteDevice, E:
         → W.waiting devices.new.out ≡ false }
     ensures through { result ≡ 0
         → O.waiting devices.new.outputs ≡ O.waiting devices.old.outputs }
-    ensures tries { Tries (request_seen request.now) (inputs_of devices.old) result
-        (edge R.ReadDevice reader.old devices.old) (edge R.ReadDevice reader.new devices.new) }
+    ensures tries { let edge = edge R.ReadDevice I.NamedInputs O.NamedOutputs
+        W.WriteDevice E.Teller in
+        Tries (request_seen request.now) (inputs_of I.Input.ReadDevice I.NamedInputs devices.old) result
+        (edge reader.old devices.old) (edge reader.new devices.new) }
 {
     match spare_inputs(&mut devices.outputs, request) {
         Ok(()) => make(alloc, &request.output, reader, devices),
@@ -181,8 +193,10 @@ fn make<R: ReadDevice, I: NamedInputs, O: NamedOutputs, W: WriteDevice, E: Telle
         → W.waiting devices.new.out ≡ false }
     ensures through { result ≡ 0
         → O.waiting devices.new.outputs ≡ O.waiting devices.old.outputs }
-    ensures makes { Makes (made_seen output.now) (inputs_of devices.old) result
-        (edge R.ReadDevice reader.old devices.old) (edge R.ReadDevice reader.new devices.new) }
+    ensures makes { let edge = edge R.ReadDevice I.NamedInputs O.NamedOutputs
+        W.WriteDevice E.Teller in
+        Makes (made_seen output.now) (inputs_of I.Input.ReadDevice I.NamedInputs devices.old) result
+        (edge reader.old devices.old) (edge reader.new devices.new) }
 {
     match output {
         Output::Listing(prefix) => print_list(alloc, prefix, reader, devices),
@@ -209,8 +223,10 @@ fn trace<R: ReadDevice, I: NamedInputs, O: NamedOutputs, W: WriteDevice, E: Tell
 ) -> u8
     ensures flushed { result ≡ 0 → W.waiting devices.new.out ≡ false }
     ensures through { O.waiting devices.new.outputs ≡ O.waiting devices.old.outputs }
-    ensures traces { Behind prefix.now (TracingBy by result)
-        (edge R.ReadDevice reader.old devices.old) (edge R.ReadDevice reader.new devices.new) }
+    ensures traces { let edge = edge R.ReadDevice I.NamedInputs O.NamedOutputs
+        W.WriteDevice E.Teller in
+        Behind prefix.now (TracingBy by result)
+        (edge reader.old devices.old) (edge reader.new devices.new) }
 {
     let (_, status) = trace_behind::<R, I, O, W, E, Brand>(by, alloc, prefix, reader, devices);
     status
@@ -229,8 +245,10 @@ fn page<R: ReadDevice, I: NamedInputs, O: NamedOutputs, W: WriteDevice, E: Telle
     ensures flushed { W.waiting devices.new.out ≡ W.waiting devices.old.out }
     ensures through { result ≡ 0
         → O.waiting devices.new.outputs ≡ O.waiting devices.old.outputs }
-    ensures pages { Behind prefix.now (Paging steps name.now result)
-        (edge R.ReadDevice reader.old devices.old) (edge R.ReadDevice reader.new devices.new) }
+    ensures pages { let edge = edge R.ReadDevice I.NamedInputs O.NamedOutputs
+        W.WriteDevice E.Teller in
+        Behind prefix.now (Paging steps name.now result)
+        (edge reader.old devices.old) (edge reader.new devices.new) }
 {
     let (_, status) = page_behind::<R, I, O, W, E, Brand>(
         alloc, prefix, steps, &name, reader, devices,
@@ -250,8 +268,10 @@ fn debug_file<R: ReadDevice, I: NamedInputs, O: NamedOutputs, W: WriteDevice, E:
     ensures flushed { result ≡ 0 → W.waiting devices.old.out ≡ false
         → W.waiting devices.new.out ≡ false }
     ensures through { O.waiting devices.new.outputs ≡ O.waiting devices.old.outputs }
-    ensures debugs { DebuggingFile prefix.now name.now (inputs_of devices.old) result
-        (edge R.ReadDevice reader.old devices.old) (edge R.ReadDevice reader.new devices.new) }
+    ensures debugs { let edge = edge R.ReadDevice I.NamedInputs O.NamedOutputs
+        W.WriteDevice E.Teller in
+        DebuggingFile prefix.now name.now (inputs_of I.Input.ReadDevice I.NamedInputs devices.old) result
+        (edge reader.old devices.old) (edge reader.new devices.new) }
 {
     match devices.inputs.open(name) {
         Ok(file) => {
@@ -274,9 +294,11 @@ fn write_file<R: ReadDevice, I: NamedInputs, O: NamedOutputs, W: WriteDevice, E:
     ensures flushed { W.waiting devices.new.out ≡ W.waiting devices.old.out }
     ensures through { result ≡ 0
         → O.waiting devices.new.outputs ≡ O.waiting devices.old.outputs }
-    ensures writes { Writing name.now (map (λ image. image.now) images.now)
-        (inputs_of devices.old) result
-        (edge R.ReadDevice reader.old devices.old) (edge R.ReadDevice reader.new devices.new) }
+    ensures writes { let edge = edge R.ReadDevice I.NamedInputs O.NamedOutputs
+        W.WriteDevice E.Teller in
+        Writing name.now (map (λ image. image.now) images.now)
+        (inputs_of I.Input.ReadDevice I.NamedInputs devices.old) result
+        (edge reader.old devices.old) (edge reader.new devices.new) }
 {
     let Ok(words) = names_of(alloc, images) else {
         return report(&NO_MEMORY, &mut devices.err);

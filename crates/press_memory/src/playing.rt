@@ -33,7 +33,8 @@ fn played(alloc: Global, engines: u64, inputs: MemoryFiles<'_>, lines: &[u8]) ->
         sums: false,
         goes_on: false,
     };
-    let mut devices = Devices::new(inputs, ListOutputs::new(alloc), out, LastTold::nothing());
+    let outputs = ListOutputs::new(alloc);
+    let mut devices = Devices::new(inputs, outputs, out, LastTold::nothing());
     let status = press_lines(alloc, asked, &mut reader, &mut devices);
     Written {
         fault: devices.err.fault(status),

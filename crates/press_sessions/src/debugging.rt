@@ -124,9 +124,11 @@ pub fn debug_lines<
     ensures flushed { result ≡ 0 → W.waiting devices.old.out ≡ false
         → W.waiting devices.new.out ≡ false }
     ensures through { O.waiting devices.new.outputs ≡ O.waiting devices.old.outputs }
-    ensures debugs { DebuggingOf ⊥ (ReadFails (S.failed input.new) (S.reads input.new))
+    ensures debugs { let edge = edge R.ReadDevice I.NamedInputs O.NamedOutputs
+        W.WriteDevice E.Teller in
+        DebuggingOf ⊥ (ReadFails (S.failed input.new) (S.reads input.new))
         (change (S.remaining input.old) (S.remaining input.new)) result
-        (edge R.ReadDevice reader.old devices.old) (edge R.ReadDevice reader.new devices.new) }
+        (edge reader.old devices.old) (edge reader.new devices.new) }
 {
     match debug(alloc, input, reader, &mut devices.out) {
         Ok(()) => 0,

@@ -66,8 +66,10 @@ pub fn press_lines<R: ReadDevice, I: NamedInputs, O: NamedOutputs, W: WriteDevic
     ensures flushed { result ≡ 0 → W.waiting devices.new.out ≡ false }
     ensures through { result ≡ 0
         → O.waiting devices.new.outputs ≡ O.waiting devices.old.outputs }
-    ensures ended { Playing (session_seen asked.entry) (inputs_of devices.old) result
-        (edge R.ReadDevice reader.old devices.old) (edge R.ReadDevice reader.new devices.new) }
+    ensures ended { let edge = edge R.ReadDevice I.NamedInputs O.NamedOutputs
+        W.WriteDevice E.Teller in
+        Playing (session_seen asked.entry) (inputs_of I.Input.ReadDevice I.NamedInputs devices.old) result
+        (edge reader.old devices.old) (edge reader.new devices.new) }
 {
     let Devices {
         inputs,
@@ -76,8 +78,9 @@ pub fn press_lines<R: ReadDevice, I: NamedInputs, O: NamedOutputs, W: WriteDevic
         err,
         ..
     } = devices;
-    let (_, status) =
-        play_lent::<I, O, R, W, E, Brand>(alloc, inputs, asked, outputs, reader, out, err);
+    let (_, status) = play_lent::<I, O, R, W, E, Brand>(
+        alloc, inputs, asked, outputs, reader, out, err,
+    );
     status
 }
 
@@ -129,7 +132,15 @@ fn template_of(alloc: Global, text: Option<&str>) -> Result<Option<EntryTemplate
 }
 
 /// Plays a session that is asked for so, whose outputs are lent, and go back, with the status. The call's proof says which they are.
-fn play_lent<'r, I: NamedInputs, O: NamedOutputs, R: ReadDevice, W: WriteDevice, E: Teller, L: Loan>(
+fn play_lent<
+    'r,
+    I: NamedInputs,
+    O: NamedOutputs,
+    R: ReadDevice,
+    W: WriteDevice,
+    E: Teller,
+    L: Loan,
+>(
     alloc: Global,
     inputs: &I,
     asked: SessionRequest<'_>,
@@ -159,8 +170,9 @@ fn play_lent<'r, I: NamedInputs, O: NamedOutputs, R: ReadDevice, W: WriteDevice,
         (change (O.made outputs.old) (O.made result.0.now))) }
 {
     let lent: Lent<'r, O, L> = Lent::new(outputs);
-    let (outputs, status) =
-        play_asked::<I, Lent<'r, O, L>, R, W, E>(alloc, inputs, asked, lent, reader, out, err);
+    let (outputs, status) = play_asked::<I, Lent<'r, O, L>, R, W, E>(
+        alloc, inputs, asked, lent, reader, out, err,
+    );
     (outputs.into_inner(), status)
 }
 

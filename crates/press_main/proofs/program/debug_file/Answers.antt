@@ -9,7 +9,7 @@ returns-in-Ok-clause-debugs g c =
     let debugged = c.debug_behind-file in
     let some = behind-some c.args.prefix.now _ _ _ (rw c.in-Ok.ensures.bytes at debugged.ensures.debugs) in (
       some.0,
-      debugging-closed _ _ _ _ _ (edge g.R.ReadDevice c.args.reader.now c.args.devices.now) (edge g.R.ReadDevice debugged.new.reader debugged.new.devices)
+      debugging-closed _ _ _ _ _ (edge g.R.ReadDevice g.I.NamedInputs g.O.NamedOutputs g.W.WriteDevice g.E.Teller c.args.reader.now c.args.devices.now) (edge g.R.ReadDevice g.I.NamedInputs g.O.NamedOutputs g.W.WriteDevice g.E.Teller debugged.new.reader debugged.new.devices)
           (λ fails. c.close.ensures.1 (inr fails)) some.1,
     )
 

@@ -25,5 +25,5 @@ returns-clause-writes g c =
     let same : map (λ (name : Bor (List ℕ)). input name.now) c.deref.result.now ≡ map input (map now c.args.images.now) =
     map-twice now input c.deref.result.now ∙ ap (map input) (ap (map now) c.deref.ensures.value ∙ c.in-Ok.ensures) in
     let P : List NamedInput → Type 0 = λ inputs.
-    WritingOf c.args.name.now inputs c.job_file.result (edge g.R.ReadDevice c.args.reader.now devices) (edge g.R.ReadDevice c.job_file.new.ticket c.job_file.new.devices) in
+    WritingOf c.args.name.now inputs c.job_file.result (edge g.R.ReadDevice g.I.NamedInputs g.O.NamedOutputs g.W.WriteDevice g.E.Teller c.args.reader.now devices) (edge g.R.ReadDevice g.I.NamedInputs g.O.NamedOutputs g.W.WriteDevice g.E.Teller c.job_file.new.ticket c.job_file.new.devices) in
     subst P same c.job_file.ensures.ended
