@@ -1,6 +1,7 @@
 -- Streams that are printed or listed, and the inputs and outputs of the program.
 pub mod Causes
 pub mod Change
+pub mod Edge
 pub mod EntryKept
 pub mod EntryListing
 pub mod EntryPages

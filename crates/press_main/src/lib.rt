@@ -10,11 +10,11 @@ mod sparing;
 
 pub use making::{asm_file, job_file};
 pub use press_files::{
-    Finished, InputError, NamedFile, NamedFiles, NamedInputs, print_files, print_list, print_sums,
+    Devices, InputError, NamedFile, NamedFiles, NamedInputs, print_files, print_list, print_sums,
 };
 pub use press_forms::{PagingError, asm_text, disasm_bytes, page_file, tell_trace};
 pub use press_jobs::write_files;
-pub use press_sessions::{Played, debug_lines, press_lines};
+pub use press_sessions::{debug_lines, press_lines};
 pub use press_telling::Teller;
 pub use press_words::{Input, Output, Refusal, Request, SessionRequest, request_of};
-pub use program::{Performed, run_words};
+pub use program::run_words;

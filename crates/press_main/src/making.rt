@@ -7,14 +7,14 @@ ghost use Rattle.press_forms.specs.Causes.{TextCause};
 ghost use Rattle.press_jobs.specs.Causes.{JobCause};
 ghost use Rattle.press_forms.specs.Assembly.{AssembledInto, StopsMaking};
 ghost use Rattle.press_jobs.specs.Jobs.{MakesAJob, MakesNoJob, MakesTheTicket, StopsMakingJob};
-ghost use Rattle.press_forms.specs.Faults.{told_of_text};
-ghost use Rattle.press_jobs.specs.Faults.{told_of_job};
+ghost use Rattle.press_files.specs.Edge.{edge};
 ghost use Rattle.press_files.specs.NamedInputs.{named};
-ghost use Rattle.press_telling.specs.Telling.{Ended};
+ghost use Rattle.press_forms.specs.Ends.{Assembling};
+ghost use Rattle.press_jobs.specs.Ends.{WritingOf};
 
 use press_bits::Bitmap;
-use press_devices::ReadDevice;
-use press_files::NamedInputs;
+use press_devices::{ReadDevice, WriteDevice};
+use press_files::{Devices, NamedInputs};
 use press_forms::{TextError, assembled};
 use press_jobs::{JobFileError, images_named, ticket_in};
 use press_printing::write_job;
@@ -24,27 +24,25 @@ use press_ticket::Ticket;
 use press_writer::{WriterError, check};
 use std::alloc::Global;
 
-/// Makes the output of this name, which holds the bytes of the assembly text that a reader has, and writes a fault to `err`. Of a text
+/// Makes the output of this name, which holds the bytes of the assembly text that a reader has, and writes a fault to standard error. Of a text
 /// that is refused nothing is made. The answer is the status: 0, and nothing of it waits in the program, or 1 after a fault.
-pub fn asm_file<R: ReadDevice, O: NamedOutputs, E: Teller>(
+pub fn asm_file<R: ReadDevice, I: NamedInputs, O: NamedOutputs, W: WriteDevice, E: Teller>(
     alloc: Global,
-    reader: &mut R,
-    outputs: &mut O,
     name: &str,
-    err: &mut E,
+    reader: &mut R,
+    devices: &mut Devices<I, O, W, E>,
 ) -> u8
-    ensures through { result ≡ 0 → O.waiting outputs.new ≡ O.waiting outputs.old }
-    ensures ended { Ended result (E.said err.old) (E.said err.new) told_of_text
-        (AssembledInto name.now (R.remaining reader.old) (R.remaining reader.new)
-        (O.made outputs.old) (O.made outputs.new))
-        (λ why. StopsMaking name.now (R.remaining reader.old) (R.remaining reader.new)
-        (O.made outputs.old) (O.made outputs.new) why
-        × TextCause (failures (ReadFails (R.failed reader.new) (R.reads reader.new))
-        ⊥ ⊥ (O.failed outputs.new ≡ true)) why) }
+    ensures flushed { W.waiting devices.new.out ≡ W.waiting devices.old.out }
+    ensures through { result ≡ 0
+        → O.waiting devices.new.outputs ≡ O.waiting devices.old.outputs }
+    ensures ended { let edge = edge R.ReadDevice I.NamedInputs O.NamedOutputs
+        W.WriteDevice E.Teller in
+        Assembling name.now result
+        (edge reader.old devices.old) (edge reader.new devices.new) }
 {
-    match make_stream(alloc, reader, outputs, name) {
+    match make_stream(alloc, reader, &mut devices.outputs, name) {
         Ok(()) => 0,
-        Err(error) => report(&error, err),
+        Err(error) => report(&error, &mut devices.err),
     }
 }
 
@@ -69,33 +67,31 @@ fn make_stream<R: ReadDevice, O: NamedOutputs>(
 }
 
 /// Makes the output of this name, which holds the job of the ticket that a reader has, with the images of the inputs of these names
-/// in the order of its pages, and writes a fault to `err`. Nothing is made before the images are found to fit. The answer is the
+/// in the order of its pages, and writes a fault to standard error. Nothing is made before the images are found to fit. The answer is the
 /// status: 0, and nothing of it waits in the program, or 1 after a fault.
-pub fn job_file<T: ReadDevice, I: NamedInputs, O: NamedOutputs, E: Teller>(
+pub fn job_file<T: ReadDevice, I: NamedInputs, O: NamedOutputs, W: WriteDevice, E: Teller>(
     alloc: Global,
-    ticket: &mut T,
-    inputs: &I,
-    names: &[&[u8]],
-    outputs: &mut O,
     name: &str,
-    err: &mut E,
+    names: &[&[u8]],
+    ticket: &mut T,
+    devices: &mut Devices<I, O, W, E>,
 ) -> u8
-    ensures through { result ≡ 0 → O.waiting outputs.new ≡ O.waiting outputs.old }
-    ensures ended { Ended result (E.said err.old) (E.said err.new) told_of_job
-        (MakesTheTicket name.now (T.remaining ticket.old) (T.remaining ticket.new)
+    ensures flushed { W.waiting devices.new.out ≡ W.waiting devices.old.out }
+    ensures through { result ≡ 0
+        → O.waiting devices.new.outputs ≡ O.waiting devices.old.outputs }
+    ensures ended { let edge = edge T.ReadDevice I.NamedInputs O.NamedOutputs
+        W.WriteDevice E.Teller in
+        WritingOf name.now
         (map (λ name. named (SomeFails I.Input.failed I.Input.reads)
-        (I.bytes inputs.now) (I.missing inputs.now) name.now) names.now)
-        (O.made outputs.old) (O.made outputs.new))
-        (λ why. StopsMakingJob name.now (T.remaining ticket.old) (T.remaining ticket.new)
-        (map (λ name. named (SomeFails I.Input.failed I.Input.reads)
-        (I.bytes inputs.now) (I.missing inputs.now) name.now) names.now)
-        (change (O.made outputs.old) (O.made outputs.new)) why
-        × JobCause (failures (ReadFails (T.failed ticket.new) (T.reads ticket.new))
-        ⊥ ⊥ (O.failed outputs.new ≡ true))
-        (T.remaining ticket.old) (T.remaining ticket.new)
-        (map (λ name. named (SomeFails I.Input.failed I.Input.reads)
-        (I.bytes inputs.now) (I.missing inputs.now) name.now) names.now) why) }
+        (I.bytes devices.old.inputs) (I.missing devices.old.inputs) name.now) names.now) result
+        (edge ticket.old devices.old) (edge ticket.new devices.new) }
 {
+    let Devices {
+        inputs,
+        outputs,
+        err,
+        ..
+    } = devices;
     match make_ticket(alloc, ticket, inputs, names, outputs, name) {
         Ok(()) => 0,
         Err(error) => report(&error, err),

@@ -18,8 +18,8 @@ ghost use Rattle.press_sessions.specs.Debugging.{
   Debugs,
   StopsDebugging,
 };
-ghost use Rattle.press_sessions.specs.Faults.{told_of_debugger};
-ghost use Rattle.press_telling.specs.Telling.{Ended};
+ghost use Rattle.press_files.specs.Edge.{edge};
+ghost use Rattle.press_sessions.specs.Ends.{DebuggingOf};
 
 use crate::debugger_lines::{DebuggerLine, asked_of};
 use crate::talking::{Talk, answer_lines};
@@ -28,7 +28,8 @@ use press_cmd::{Kind, LINE_FEED};
 use press_debug::{Break, BreakError, Debugger, OpenError, Stop, Watch};
 use press_devices::{ReadDevice, WriteDevice};
 use press_engine::View;
-use press_files::InputError;
+use press_files::{Devices, InputError, NamedInputs};
+use press_sink::NamedOutputs;
 use press_telling::{NO_OUTPUT, Teller, report};
 use press_units::ToldFault;
 use press_words::{WHAT, line_of};
@@ -109,30 +110,29 @@ impl From<AllocError> for DebugError {
     }
 }
 
-/// Has a session with a debugger of the stream that `input` has: answers each line that a reader has, to `out`. The stream is
-/// read whole before the first line. A breakpoint that is refused is an answer; after a fault, which stands on `err`, no line is
-/// answered. The answer is the status: 0, and nothing waits in `out` if nothing did before, or 1 after a fault.
-pub fn debug_lines<I: ReadDevice, R: ReadDevice, W: WriteDevice, E: Teller>(
-    alloc: Global,
-    input: &mut I,
-    reader: &mut R,
-    out: &mut W,
-    err: &mut E,
-) -> u8
-    ensures flushed { result ≡ 0 → W.waiting out.old ≡ false → W.waiting out.new ≡ false }
-    ensures ended { Ended result (E.said err.old) (E.said err.new) told_of_debugger
-        (Debugs (I.remaining input.old) (I.remaining input.new)
-        (R.remaining reader.old) (R.remaining reader.new)
-        (W.contents out.old) (W.contents out.new))
-        (StopsDebugging ⊥ (failures (ReadFails (R.failed reader.new) (R.reads reader.new))
-        (ReadFails (I.failed input.new) (I.reads input.new)) (W.failed out.new ≡ true) ⊥)
-        (change (I.remaining input.old) (I.remaining input.new))
-        (change (R.remaining reader.old) (R.remaining reader.new))
-        (change (W.contents out.old) (W.contents out.new))) }
+/// Has a session with a debugger of the stream that `input` has: answers each line that a reader has, to standard output. The stream is
+/// read whole before the first line. A breakpoint that is refused is an answer; after a fault, which stands on standard error, no line is
+/// answered. The answer is the status: 0, and nothing waits in standard output if nothing did before, or 1 after a fault.
+pub fn debug_lines<
+    S: ReadDevice,
+    R: ReadDevice,
+    I: NamedInputs,
+    O: NamedOutputs,
+    W: WriteDevice,
+    E: Teller,
+>(alloc: Global, input: &mut S, reader: &mut R, devices: &mut Devices<I, O, W, E>) -> u8
+    ensures flushed { result ≡ 0 → W.waiting devices.old.out ≡ false
+        → W.waiting devices.new.out ≡ false }
+    ensures through { O.waiting devices.new.outputs ≡ O.waiting devices.old.outputs }
+    ensures debugs { let edge = edge R.ReadDevice I.NamedInputs O.NamedOutputs
+        W.WriteDevice E.Teller in
+        DebuggingOf ⊥ (ReadFails (S.failed input.new) (S.reads input.new))
+        (change (S.remaining input.old) (S.remaining input.new)) result
+        (edge reader.old devices.old) (edge reader.new devices.new) }
 {
-    match debug(alloc, input, reader, out) {
+    match debug(alloc, input, reader, &mut devices.out) {
         Ok(()) => 0,
-        Err(error) => report(&error, err),
+        Err(error) => report(&error, &mut devices.err),
     }
 }
 

@@ -11,4 +11,4 @@ mod sessions;
 mod talking;
 
 pub use debugging::debug_lines;
-pub use sessions::{Played, press_lines};
+pub use sessions::press_lines;

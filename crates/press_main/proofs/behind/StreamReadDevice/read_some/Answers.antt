@@ -2,7 +2,7 @@ use Rattle.std.proofs.Common.{◌≡◌, ◌≤◌, ◌++◌, take, drop, length
 use Rattle.std.proofs.lemmas.List.{take_rest, length-drop, length-append, length-take-le}
 use borrow.Rule.Slice.PartMut.{put_mid}
 use Rattle.press_main.proofs.BehindLemmas.{gives-behind, at_end-behind, end_put, either}
-use Rattle.press_main.proofs.behind.BehindReadDevice.read_some.Goals as goal
+use Rattle.press_main.proofs.behind.StreamReadDevice.read_some.Goals as goal
 
 pub returns-clause-bytes : goal.returns-clause-bytes
 returns-clause-bytes g c =
