@@ -76,7 +76,7 @@ KINDS = (
           "crates/press_core/src/listings.rt": "what its response adds", "tools/reasons/sessions.py": "the statuses in which it is legal",
           "tools/model/job_queue.py": "its row, by somebody who has not read the code"}),
     Kind("subcommand",
-         {name: () for name in ("print", "asm", "disasm", "debug", "write", "press", "trace", "page")},
+         {name: () for name in ("print", "asm", "disasm", "debug", "write", "press", "trace", "page", "tables")},
          ("subcommands",), "",
          {"crates/press_main/specs/Program.antt": "what it promises", "crates/press_main/src/sparing.rt": "which inputs its output may not be", "crates/press_main/src/making.rt": "how its output is made",
           "crates/press_files/specs/Files.antt": "which files it makes", "crates/press_words/specs/View.antt": "its request as contracts see it",

@@ -12,13 +12,14 @@ use Rattle.press_telling.specs.Telling.{output_text, Tells, as_line}
 use Rattle.press_trace.specs.declared.line_of.LineOf.TheVariants.{Run, Step}
 use Rattle.press_words.specs.Defaults.{HoldsBehind, with_prefix}
 use Rattle.press_words.specs.View.{AsksHelp}
-use Rattle.press_words.specs.Words.{Source, Standard, FileNamed, Made, Listed, SummedOf, FilesBy, Answered, AsText, DebuggedOf, TracedOf, RunsOf, PageTo, StreamTo, JobTo, Arguments, arguments}
+use Rattle.press_words.specs.Words.{Source, Standard, FileNamed, Made, Listed, SummedOf, FilesBy, Answered, AsText, DebuggedOf, TracedOf, RunsOf, PageTo, StreamTo, JobTo, TablesTold, Arguments, arguments}
 use Rattle.press_files.specs.Edge.{Edge, Inputs, MakesNothing, ReadsNothing, WritesNothing, fails_of}
 use Rattle.press_files.specs.Files.{PrintsFiles, DoesNothing}
 use Rattle.press_files.specs.Listing.{PrintsListing, PrintsSums}
 use Rattle.press_forms.specs.Ends.{Assembling, Disassembling, Paging, TracingBy}
 use Rattle.press_jobs.specs.Ends.{Writing}
 use Rattle.press_sessions.specs.Ends.{Debugging, Playing}
+use Rattle.press_main.specs.Tables.{tables_text}
 
 -- The edge whose reader has this; and that of a file that is opened, which tells whether a read failed, and how many there were.
 abbrev pub having : Option (List ℕ) → Edge → Edge
@@ -45,6 +46,11 @@ WritesText text status before after =
     ⊎ ((status ≡ 1) × Tells before.told after.told (as_line (Some output_text))
     × (fails_of after).output × AppendsPrefix before.written after.written text)
 
+-- The program's own tables were written so. Nothing is read or made.
+abbrev pub TellsTables : (status : ℕ) (before after : Edge) → Type 0
+TellsTables status before after =
+    WritesText tables_text status before after × ReadsNothing before after × MakesNothing before after
+
 -- What is asked for was made of what a reader had, by a row for each subcommand.
 abbrev pub Makes : Made → Inputs → (status : ℕ) (before after : Edge) → Type 0
 Makes (Listed prefix) inputs status = PrintsListing prefix status
@@ -58,6 +64,7 @@ Makes (RunsOf prefix) inputs status = Behind prefix (TracingBy Run status)
 Makes (PageTo prefix steps name) inputs status = Behind prefix (Paging steps name status)
 Makes (StreamTo name) inputs status = Assembling name status
 Makes (JobTo name images) inputs status = Writing name images inputs status
+Makes TablesTold inputs status = TellsTables status
 
 -- Files of a stream are asked for, and the stream is itself a file, which has the name of a side by their template.
 abbrev pub PrintsAFile : Arguments → Type 0

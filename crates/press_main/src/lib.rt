@@ -7,6 +7,7 @@ mod behind;
 mod making;
 mod program;
 mod sparing;
+mod tables;
 
 pub use making::{asm_file, job_file};
 pub use press_files::{

@@ -11,6 +11,7 @@ ghost use Rattle.press_words.specs.View.{made_seen, request_seen, status_of};
 use crate::behind::{debug_behind, page_behind, trace_behind};
 use crate::making::{asm_file, job_file};
 use crate::sparing::spare_inputs;
+use crate::tables::tables;
 use press_devices::{ReadDevice, WriteDevice, write_flushed};
 use press_files::{Devices, NamedInputs, print_files, print_list, print_sums};
 use press_forms::disasm_bytes;
@@ -210,6 +211,7 @@ fn make<R: ReadDevice, I: NamedInputs, O: NamedOutputs, W: WriteDevice, E: Telle
         Output::Page(prefix, steps, name) => page(alloc, prefix, *steps, name, reader, devices),
         Output::Assembled(name) => asm_file(alloc, name, reader, devices),
         Output::Job(name, images) => write_file(alloc, name, images, reader, devices),
+        Output::Tables => write_text(tables(), reader, devices),
     }
 }
 

@@ -3,7 +3,7 @@ ghost use Rattle.std.specs.Prelude.{◌≡◌, ◌≢◌, ◌⊎◌, IfOk, IfErr
 ghost use Rattle.clap.specs.Words.{app_of, rule_of, new_app, new_rule, with_rule, kind_of, rows_of, found_of, subcommand_of, subcommand_rows_of, fault_of, FailsBy};
 ghost use Rattle.clap.specs.declared.builder.command.Command.TheViews.{out-Command};
 ghost use Rattle.clap.specs.declared.error.kind.ErrorKind.TheVariants.{OutOfMemory};
-ghost use Rattle.press_words.specs.Words.{list_rule, sums_rule, runs_rule, default_rule, needed_rule, images_rule, print_app, asm_app, disasm_app, debug_app, trace_app, page_app, write_app, session_app, program_app, press_app, source_of, made_behind, made_of, made_named, made_in, images_of, defaults_of, prefix_in, print_arguments, asm_arguments, disasm_arguments, debug_of, debug_arguments, traced_as, trace_arguments, steps_in, page_to, page_arguments, job_arguments, session_arguments, subcommand_named, arguments_of, arguments_by, arguments, is_set};
+ghost use Rattle.press_words.specs.Words.{list_rule, sums_rule, runs_rule, default_rule, needed_rule, images_rule, print_app, asm_app, disasm_app, debug_app, trace_app, page_app, write_app, session_app, tables_app, program_app, press_app, Standard, TablesTold, name_of, source_of, made_behind, made_of, made_named, made_in, images_of, defaults_of, prefix_in, print_arguments, asm_arguments, disasm_arguments, debug_of, debug_arguments, traced_as, trace_arguments, steps_in, page_to, page_arguments, job_arguments, session_arguments, subcommand_named, arguments_of, arguments_by, arguments, is_set};
 ghost use Rattle.press_words.specs.View.{AsksHelp, source_seen, made_seen, request_seen, status_of, IsForMemory};
 
 use crate::defaults::{are_assignments, prefix_of};
@@ -40,6 +40,7 @@ const AFTER_HELP: &str = "Examples:
   press press < events.txt
   press press --engines 2 < events.txt
   press press --out page-%q-%d.pbm --sums < events.txt
+  press tables
 
 A fault is told in one line on standard error. What each means, and what to do:
   fault 111, 113        an image is no P4 file (raw PBM), or its end is missing: make it again
@@ -99,6 +100,8 @@ pub enum Output<'a> {
     Assembled(&'a str),
     /// The file of this name, of the job of a ticket with the images of these files.
     Job(&'a str, Vec<&'a str>),
+    /// The program's own tables.
+    Tables,
 }
 
 /// What the program is asked to do.
@@ -379,6 +382,16 @@ fn write_command<'a>(alloc: Global) -> Result<Command<'a>, AllocError>
         .arg(images_word(alloc))
 }
 
+/// The subcommand `tables`.
+fn tables_command<'a>(alloc: Global) -> Command<'a>
+    ensures app { app_of result ≡ tables_app }
+    ensures local { (out-Command result).has_globals ≡ false }
+{
+    Command::new(alloc, "tables").about(
+        "Writes the program's own tables as JSON: subcommands, page sizes, variables, methods, faults, messages",
+    )
+}
+
 /// The program, with its help, its version and no subcommand.
 fn program<'a>(alloc: Global) -> Command<'a>
     ensures { app_of result ≡ program_app }
@@ -404,7 +417,8 @@ fn command<'a>(alloc: Global) -> Result<Command<'a>, AllocError>
         .subcommand(trace_command(alloc)?)?
         .subcommand(page_command(alloc)?)?
         .subcommand(write_command(alloc)?)?
-        .subcommand(press_command(alloc)?)
+        .subcommand(press_command(alloc)?)?
+        .subcommand(tables_command(alloc))
 }
 
 /// The matches of words, the program's name among them.
@@ -700,6 +714,16 @@ fn session_request<'a>(matches: &ArgMatches<'a>) -> Option<Request<'a>>
     })
 }
 
+/// What `tables` asks for. Nothing is read.
+fn tables_request<'a>() -> Request<'a>
+    ensures { request_seen result ≡ record { source = Standard; made = TablesTold } }
+{
+    Request {
+        input: Input::Standard,
+        output: Output::Tables,
+    }
+}
+
 /// A subcommand.
 #[derive(Clone, Copy)]
 enum Subcommand {
@@ -711,31 +735,47 @@ enum Subcommand {
     Page,
     Write,
     Press,
+    Tables,
+}
+
+/// All subcommands.
+const SUBCOMMANDS: [Subcommand; 9] = [
+    Subcommand::Print,
+    Subcommand::Asm,
+    Subcommand::Disasm,
+    Subcommand::Debug,
+    Subcommand::Trace,
+    Subcommand::Page,
+    Subcommand::Write,
+    Subcommand::Press,
+    Subcommand::Tables,
+];
+
+/// The name of a subcommand.
+fn name_of(subcommand: Subcommand) -> &'static str
+    ensures { result.now ≡ name_of subcommand }
+{
+    match subcommand {
+        Subcommand::Print => "print",
+        Subcommand::Asm => "asm",
+        Subcommand::Disasm => "disasm",
+        Subcommand::Debug => "debug",
+        Subcommand::Trace => "trace",
+        Subcommand::Page => "page",
+        Subcommand::Write => "write",
+        Subcommand::Press => "press",
+        Subcommand::Tables => "tables",
+    }
 }
 
 /// The subcommand of this name.
 fn subcommand_named(name: &str) -> Option<Subcommand>
     ensures { result ≡ subcommand_named name.now }
 {
-    if name == "print" {
-        Some(Subcommand::Print)
-    } else if name == "asm" {
-        Some(Subcommand::Asm)
-    } else if name == "disasm" {
-        Some(Subcommand::Disasm)
-    } else if name == "debug" {
-        Some(Subcommand::Debug)
-    } else if name == "trace" {
-        Some(Subcommand::Trace)
-    } else if name == "page" {
-        Some(Subcommand::Page)
-    } else if name == "write" {
-        Some(Subcommand::Write)
-    } else if name == "press" {
-        Some(Subcommand::Press)
-    } else {
-        None
-    }
+    SUBCOMMANDS
+        .iter()
+        .copied()
+        .find(|subcommand| name == name_of(*subcommand))
 }
 
 /// What the matches of a subcommand ask for.
@@ -756,6 +796,7 @@ fn subcommand_request<'a>(
         Subcommand::Page => page_request(alloc, matches),
         Subcommand::Write => job_request(alloc, matches),
         Subcommand::Press => Ok(session_request(matches)),
+        Subcommand::Tables => Ok(Some(tables_request())),
     }
 }
 

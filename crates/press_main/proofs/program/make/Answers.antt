@@ -1,3 +1,4 @@
+use Rattle.std.proofs.Common.{ap, refl}
 use Rattle.press_main.proofs.program.make.Goals as goal
 
 pub returns-in-Listing-clause-makes : goal.returns-in-Listing-clause-makes
@@ -32,3 +33,7 @@ returns-in-Assembled-clause-makes g c = rw c.in-Assembled.is c.asm_file.ensures.
 
 pub returns-in-Job-clause-makes : goal.returns-in-Job-clause-makes
 returns-in-Job-clause-makes g c = rw (c.in-Job.is, ← c.deref-in-Job.ensures.value) c.write_file.ensures.writes
+
+pub returns-in-Tables-clause-makes : goal.returns-in-Tables-clause-makes
+returns-in-Tables-clause-makes g c =
+    rw (c.in-Tables.is, ← c.tables.ensures) (c.write_text.ensures.writes, refl, ap g.O.NamedOutputs.made c.write_text.ensures.outputs)

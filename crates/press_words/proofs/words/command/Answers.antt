@@ -1,6 +1,6 @@
 use Rattle.std.proofs.lemmas.Result.{IfOk-weaker}
 use Rattle.clap.specs.Words.{with_subcommand}
-use Rattle.press_words.specs.Words.{program_app, print_app, asm_app, disasm_app, debug_app, trace_app, page_app, write_app, session_app}
+use Rattle.press_words.specs.Words.{program_app, print_app, asm_app, disasm_app, debug_app, trace_app, page_app, write_app, session_app, tables_app}
 use Rattle.press_words.proofs.WordsLemmas.{subcommand_added}
 use Rattle.press_words.proofs.words.command.Goals as goal
 
@@ -20,8 +20,8 @@ returns c =
     let fifth = subcommand_added _ _ _ four trace_app c.in_ok-subcommand-5.ensures c.in_ok-trace_command.ensures.local fourth c.in_ok-trace_command.ensures.app in
     let sixth = subcommand_added _ _ _ five page_app c.in_ok-subcommand-6.ensures c.in_ok-page_command.ensures.local fifth c.in_ok-page_command.ensures.app in
     let seventh = subcommand_added _ _ _ six write_app c.in_ok-subcommand-7.ensures c.in_ok-write_command.ensures.local sixth c.in_ok-write_command.ensures.app in
-    IfOk-weaker c.subcommand-8.result _ _
-    (λ command adds.
-    subcommand_added _ _ command seven session_app adds c.in_ok-press_command.ensures.local seventh
-    c.in_ok-press_command.ensures.app)
-    c.subcommand-8.ensures
+    let eight = with_subcommand seven session_app.top in
+    let eighth = subcommand_added _ _ _ seven session_app c.in_ok-subcommand-8.ensures c.in_ok-press_command.ensures.local seventh c.in_ok-press_command.ensures.app in
+    IfOk-weaker c.subcommand-9.result _ _
+    (λ command adds. subcommand_added _ _ command eight tables_app adds c.tables_command.ensures.local eighth c.tables_command.ensures.app)
+    c.subcommand-9.ensures
