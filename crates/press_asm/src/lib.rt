@@ -4,9 +4,9 @@
 mod assembler;
 mod fault;
 mod form;
+pub mod form_law;
 mod judge;
 mod kinds;
-pub mod laws;
 mod names;
 mod word;
 mod write;

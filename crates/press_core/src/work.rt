@@ -18,7 +18,7 @@ use press_bits::Bitmap;
 use press_engine::Sent;
 use press_printing::open_job;
 use press_sink::SheetSink;
-use press_stream::laws::what_is_left;
+use press_stream::call_laws::what_is_left;
 use press_stream::{Job, JobStep};
 use press_ticket::Ticket;
 use press_writer::JobWriter;

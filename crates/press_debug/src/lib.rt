@@ -4,7 +4,7 @@
 mod breakpoints;
 mod debugger;
 mod fault;
-pub mod laws;
+pub mod place_laws;
 mod stepper;
 mod watch;
 

@@ -2,6 +2,6 @@
 #![tactic(auto)]
 
 mod disassembler;
-pub mod laws;
+pub mod reading_back;
 
 pub use disassembler::{disassemble, write_lines};

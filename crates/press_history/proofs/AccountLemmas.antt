@@ -17,7 +17,7 @@ use Rattle.press_sink.specs.PrintedSheet.{PrintedSheet}
 use Rattle.press_ticket.specs.Ticket.{JobTicket}
 use Rattle.press_history.specs.Runs.{Transition}
 use Rattle.press_history.specs.History.{AreFirst, AreGiven, IsPrefix, Seen, both_seen, submitted_by, wanted_of}
-use Rattle.press_history.specs.Laws.{JobsAreShort, JobsHandOutTheWantedSheets}
+use Rattle.press_history.specs.RunLaws.{JobsAreShort, JobsHandOutTheWantedSheets}
 use Rattle.press_core.specs.Turns.{IsJobOf, progress_in_job, sheets_from}
 use Rattle.press_core.specs.Work.{IsPrintable, Work, at_progress, counting, new_work, with_delivered, without_job}
 use Rattle.press_core.proofs.HandingLemmas.{counting-append}

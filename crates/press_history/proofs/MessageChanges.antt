@@ -9,7 +9,7 @@ use Rattle.press_queue.specs.declared.command.EntryCommand.{EntryCommand}
 use Rattle.press_queue.specs.declared.command.EntryCommand.TheVariants as commands
 use Rattle.press_queue.specs.Entries.{entry_numbered}
 use Rattle.press_queue.specs.EveryQueue.{IsQueue}
-use Rattle.press_queue.specs.Laws.{EachRowKeepsTheQueue}
+use Rattle.press_queue.specs.QueueLaw.{EachRowKeepsTheQueue}
 use Rattle.press_queue.specs.Rows as rows
 use Rattle.press_queue.specs.State.{QueueState}
 use Rattle.press_queue.proofs.CommandLemmas.{Commanded, commanded_is}

@@ -10,7 +10,7 @@ use Rattle.press_bits.specs.Page.{Page}
 use Rattle.press_engine.specs.Machine.{StepResult}
 use Rattle.press_queue.specs.Entries.{entry_numbered}
 use Rattle.press_queue.specs.EveryQueue.{IsQueue}
-use Rattle.press_queue.specs.Laws.{EachRowKeepsTheQueue}
+use Rattle.press_queue.specs.QueueLaw.{EachRowKeepsTheQueue}
 use Rattle.press_sink.specs.declared.sheet.Delivery.{Delivery}
 use Rattle.press_sink.specs.PrintedSheet.{PrintedSheet}
 use Rattle.press_ticket.specs.Ticket.{JobTicket}
@@ -18,7 +18,7 @@ use Rattle.press_core.specs.Engines.{RunsOnEngines, are_engines}
 use Rattle.press_core.specs.Events.{Event, EventAnswer, Happens, Message, Nothing, Operator, Response, TurnOn, Turned}
 use Rattle.press_history.specs.Runs.{Transition, IsRun, IsExecution}
 use Rattle.press_history.specs.History.{Seen, TakesInAll, both_seen, entering, handed_under, sheets_under, is_fault_of, last_seen, met_fault, seen_after, steps_answered, steps_in, submitted_by}
-use Rattle.press_history.specs.Laws.{EntriesAreBounded, EntriesDoNotInterfere, GivenUnder, JobsAreShort, JobsHandOutTheWantedSheets, SheetsAreGiven, StaysGone}
+use Rattle.press_history.specs.RunLaws.{EntriesAreBounded, EntriesDoNotInterfere, GivenUnder, JobsAreShort, JobsHandOutTheWantedSheets, SheetsAreGiven, StaysGone}
 use Rattle.press_core.specs.Turns.{IsJobOf, sheets_from}
 use Rattle.press_core.specs.Work.{new_work}
 use Rattle.press_core.specs.World.{World, is_listed, new_world}

@@ -14,7 +14,7 @@ use Rattle.press_queue.specs.declared.status.Status.{Status}
 use Rattle.press_queue.specs.declared.status.Status.TheVariants as statuses
 use Rattle.press_queue.specs.Entries.{entry_numbered, with_entry}
 use Rattle.press_queue.specs.EveryQueue.{IsQueue}
-use Rattle.press_queue.specs.Laws.{EachRowKeepsTheQueue}
+use Rattle.press_queue.specs.QueueLaw.{EachRowKeepsTheQueue}
 use Rattle.press_queue.specs.Rows as rows
 use Rattle.press_queue.specs.State.{QueueState}
 use Rattle.press_queue.specs.Status.{has_ended, is_running, is_waiting, status_at_end}

@@ -7,7 +7,7 @@ use Rattle.std.proofs.lemmas.List.{append-nil}
 use Rattle.press_bits.specs.Page.{Page}
 use Rattle.press_queue.specs.declared.entry.Entry.{Entry}
 use Rattle.press_queue.specs.Entries.{entry_numbered}
-use Rattle.press_queue.specs.Laws.{EachRowKeepsTheQueue}
+use Rattle.press_queue.specs.QueueLaw.{EachRowKeepsTheQueue}
 use Rattle.press_queue.specs.Rows as rows
 use Rattle.press_queue.specs.Status.{has_ended}
 use Rattle.press_sink.specs.declared.sheet.Delivery.{Delivery}
@@ -24,7 +24,7 @@ use Rattle.press_core.proofs.EngineLemmas.{runs-on_engine}
 use Rattle.press_core.proofs.TurnLemmas.{begun_is, begun_runs}
 use Rattle.press_history.specs.Runs.{Transition, IsExecution, world_after}
 use Rattle.press_history.specs.History.{handed_under, sheets_under}
-use Rattle.press_history.specs.Laws.{EntriesDeliverWhileTheyRun, IsTurnOf}
+use Rattle.press_history.specs.RunLaws.{EntriesDeliverWhileTheyRun, IsTurnOf}
 use Rattle.press_history.proofs.HandedLemmas.{handed-append, handed-other}
 use Rattle.press_history.proofs.RunLemmas.{event-does, new-whole, run-whole, whole-next}
 use Rattle.press_history.proofs.Standings.{Change, Stays, Enters, Moves, Steps, Completes, Fails, Aborts, Leaves, EntryHistory, Gone, IsWholeWorld, Listed, Unknown}

@@ -1,4 +1,4 @@
 -- Runs of events of a press: what was handed out under each number.
-pub mod Runs
 pub mod History
-pub mod Laws
+pub mod RunLaws
+pub mod Runs

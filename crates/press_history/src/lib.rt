@@ -1,4 +1,4 @@
 //! Every run of events of a press: what was handed out under each number.
 #![tactic(auto)]
 
-pub mod laws;
+pub mod run_laws;

@@ -2,9 +2,9 @@
 #![tactic(auto)]
 
 mod fault;
+pub mod file_laws;
 mod fuse_read;
 mod fuse_write;
-pub mod laws;
 mod place;
 mod reading;
 mod writing;

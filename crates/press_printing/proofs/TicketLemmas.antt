@@ -1,5 +1,5 @@
 -- The job of a ticket prints it.
-use Rattle.press_printing.specs.Laws.{JobsPrintTheirTickets}
+use Rattle.press_printing.specs.PrintingLaw.{JobsPrintTheirTickets}
 use Rattle.press_printing.proofs.PaintLemmas.{picture-paints}
 use Rattle.press_printing.proofs.PrintingLemmas.{job-prints}
 

@@ -11,7 +11,7 @@ ghost use Rattle.press_writer.specs.Job.{job_bytes};
 ghost use Rattle.press_writer.specs.Left.{HasImages, bytes_left, most_job_commands, whole_job};
 ghost use Rattle.press_printing.specs.Printing.{PrintsTheTicket};
 
-use crate::laws::jobs_print_their_tickets;
+use crate::printing_law::jobs_print_their_tickets;
 use press_bits::Bitmap;
 use press_devices::WriteDevice;
 use press_ticket::Ticket;

@@ -3,9 +3,9 @@ pub mod Answers
 pub mod Entries
 pub mod EveryQueue
 pub mod Inside
-pub mod Laws
 pub mod Legal
 pub mod Priority
+pub mod QueueLaw
 pub mod Refusal
 pub mod Rows
 pub mod State

@@ -5,8 +5,8 @@
 mod command;
 mod entries;
 mod entry;
-pub mod laws;
 mod queue;
+pub mod queue_law;
 mod refusal;
 mod status;
 mod view;

@@ -11,10 +11,10 @@ mod compression;
 mod decoder;
 mod delta_row;
 mod encoder;
-pub mod laws;
 mod pack_bits;
 mod run_length;
 mod runs;
+pub mod width_law;
 
 pub use blocks::{Blocks, Run};
 pub use compression::Method;

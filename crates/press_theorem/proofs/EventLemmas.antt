@@ -19,7 +19,7 @@ use Rattle.press_core.specs.Engines.{are_engines}
 use Rattle.press_core.specs.Events.{Event, Message, TurnOn, Operator, EventAnswer, Response, Turned, Nothing, Happens, response_to}
 use Rattle.press_history.specs.History.{Seen, both_seen, steps_answered, steps_in}
 use Rattle.press_history.specs.Runs.{Transition, IsAnswered, IsExecution}
-use Rattle.press_history.specs.Laws.{ComesFromNew, NewPressesComeSo}
+use Rattle.press_history.specs.RunLaws.{ComesFromNew, NewPressesComeSo}
 use Rattle.press_queue.specs.declared.entry.Entry.{Entry}
 use Rattle.press_queue.specs.Entries.{entry_numbered}
 use Rattle.press_core.specs.Work.{Work}

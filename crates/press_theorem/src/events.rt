@@ -4,12 +4,12 @@ ghost use Rattle.press_devices.specs.Writing.{AppendsPrefix};
 ghost use Rattle.press_sink.specs.SinkLog.{most_faults};
 ghost use Rattle.press_core.specs.Engines.{are_engines};
 ghost use Rattle.press_core.specs.World.{new_world};
-ghost use Rattle.press_history.specs.Laws.{ComesFromNew};
+ghost use Rattle.press_history.specs.RunLaws.{ComesFromNew};
 ghost use Rattle.press_theorem.specs.Events.{HappenAll, HappenSome, TellPlaces, event_of, happened_in, handing};
 
 use press_bits::Bitmap;
 use press_core::{OperatorCommand, Press, Turn, TurnError};
-use press_history::laws;
+use press_history::run_laws;
 use press_sink::SheetSink;
 use std::alloc::AllocError;
 
@@ -75,7 +75,7 @@ pub fn carry_out_events<S: SheetSink>(
     ensures places { (engines : ℕ) → IsTrue (are_engines engines) → press.old ≡ new_world engines
         → TellPlaces turns.old.items turns.new.items press.new }
 {
-    laws::new_presses_come_so();
+    run_laws::new_presses_come_so();
     for event in events {
         carry_out(press, *event, sheets, responses, turns)?;
     }

@@ -11,7 +11,7 @@ ghost use Rattle.press_theorem.specs.Tickets.{Delivers, IsNotPrinted, IsPrinterO
 use press_bits::Bitmap;
 use press_printing::open_job;
 use press_sink::{ListReplies, ListSink};
-use press_stream::{Job, JobError, laws};
+use press_stream::{Job, JobError, call_laws};
 use press_ticket::{Ticket, TicketError, read_ticket};
 use press_units::ToldFault;
 use press_writer::{JobWriter, WriterError};
@@ -87,7 +87,7 @@ fn print_job(
         (deliveries lists.sheets) (replied lists.replies)) }
     ensures err { IfErr result (λ error. error ≡ JobError.NoMemory) }
 {
-    laws::chain();
+    call_laws::chain();
     let mut sheets = ListSink::new(alloc);
     let mut replies = ListReplies::new(alloc);
     let mut job = Job::open(alloc)?;

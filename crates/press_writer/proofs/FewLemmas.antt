@@ -27,7 +27,7 @@ use Rattle.press_writer.specs.declared.sequence.Sequence.TheVariants.{Compressio
 use Rattle.press_writer.specs.declared.sheet.SheetPages.{SheetPages}
 use Rattle.press_writer.specs.Fitting.{IsImage, refusal}
 use Rattle.press_writer.specs.Job.{batches, runs_of, page, back_of, form_feed_command, part_commands, sides_of_run, print_runs, job, job_bytes}
-use Rattle.press_writer.specs.Laws.{JobsAreShort, most_sheets}
+use Rattle.press_writer.specs.JobLaws.{JobsAreShort, most_sheets}
 use Rattle.press_writer.specs.Left.{most_job_commands}
 use Rattle.press_writer.specs.Picture.{method_number, method_change, left_out, sent, is_white_row, row_commands, raster_rows, rows_of_image, white_row, image_rows, picture}
 use Rattle.press_writer.specs.Plan.{IsPlan, IsSmall}

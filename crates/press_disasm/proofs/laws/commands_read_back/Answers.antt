@@ -1,5 +1,0 @@
-use Rattle.press_disasm.proofs.ReadAgain.{read_again}
-use Rattle.press_disasm.proofs.laws.commands_read_back.Goals as goal
-
-pub returns : goal.returns
-returns c = read_again

@@ -1,6 +1,0 @@
--- By the account of each number in a run.
-use Rattle.press_history.proofs.RunLemmas.{entries-do-not-interfere}
-use Rattle.press_history.proofs.laws.entries_do_not_interfere.Goals as goal
-
-pub returns : goal.returns
-returns c = entries-do-not-interfere c.jobs_hand_out_the_wanted_sheets.ensures c.each_row_keeps_the_queue.ensures

@@ -1,5 +1,0 @@
-use Rattle.press_pbm.proofs.AnswerLaws.{one_answer}
-use Rattle.press_pbm.proofs.laws.one_answer.Goals as goal
-
-pub returns : goal.returns
-returns c = one_answer

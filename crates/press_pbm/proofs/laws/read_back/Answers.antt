@@ -1,5 +1,0 @@
-use Rattle.press_pbm.proofs.ReadBack.{read_back}
-use Rattle.press_pbm.proofs.laws.read_back.Goals as goal
-
-pub returns : goal.returns
-returns c = read_back

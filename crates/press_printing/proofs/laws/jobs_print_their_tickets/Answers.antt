@@ -1,5 +1,0 @@
-use Rattle.press_printing.proofs.TicketLemmas.{jobs-print}
-use Rattle.press_printing.proofs.laws.jobs_print_their_tickets.Goals as goal
-
-pub returns : goal.returns
-returns c = jobs-print

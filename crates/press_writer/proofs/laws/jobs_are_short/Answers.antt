@@ -1,5 +1,0 @@
-use Rattle.press_writer.proofs.FewLemmas.{jobs-short}
-use Rattle.press_writer.proofs.laws.jobs_are_short.Goals as goal
-
-pub returns : goal.returns
-returns c = jobs-short
