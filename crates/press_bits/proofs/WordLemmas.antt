@@ -7,7 +7,7 @@ use Rattle.std.specs.List.{range_with_len, count_by}
 use Rattle.std.proofs.Math.Nat.{div-add-mod}
 use Rattle.std.proofs.lemmas.Bool.{cases_lt}
 use Rattle.std.proofs.lemmas.Bool.Decides.{nat_tests}
-use Rattle.std.proofs.lemmas.List.{get_or_past, get_or-take, get_or-drop, get_or_append_left, get_or-append_right, length-take}
+use Rattle.std.proofs.lemmas.List.{ext_get_or, get_or_past, get_or-take, get_or-drop, get_or_append_left, get_or-append_right, length-drop, length-take}
 use Rattle.std.proofs.lemmas.Nat.{ones_cat, le_bytes_8, be_bytes_8, and_le_l, pow_pos}
 use Rattle.std.proofs.lemmas.Nat.Bits.{bit_at_and, bit_at_or, bit_at_not, bit_at_ones, bit_at-zero, bit_at-lt, bit_at_above, bit_at_cat_low, bit_at_cat_high}
 use borrow.Rule.Slice.PartMut.{put_mid}
@@ -71,6 +71,15 @@ get_or-eight_bytes bits k (suc (suc (suc (suc (suc zero))))) within = refl
 get_or-eight_bytes bits k (suc (suc (suc (suc (suc (suc zero)))))) within = refl
 get_or-eight_bytes bits k (suc (suc (suc (suc (suc (suc (suc zero))))))) within = refl
 get_or-eight_bytes bits k (suc (suc (suc (suc (suc (suc (suc (suc i)))))))) within = absurd (omega arith)
+
+-- where all eight are there, they are taken
+pub eight_taken : (bits : List ℕ) (k : ℕ) → k + 8 ≤ length bits → take 8 (drop k bits) ≡ eight_bytes bits k
+eight_taken bits k room =
+    ext_get_or 0 (take 8 (drop k bits)) (eight_bytes bits k) long
+    (λ i within. get_or-take 8 (drop k bits) i 0 (omega (arith, long, within)) ∙ get_or-drop k bits i 0 ∙ sym (get_or-eight_bytes bits k i (omega (arith, long, within))))
+  where
+    long : length (take 8 (drop k bits)) ≡ 8
+    long = omega (arith, room, length-take 8 (drop k bits), length-drop k bits)
 
 small_eight : (bits : List ℕ) (k i : ℕ) → ((m : ℕ) → get_or bits m 0 < 256) → get_or (eight_bytes bits k) i 0 < 256
 small_eight bits k i small =
@@ -338,6 +347,11 @@ masked start from to j begun within low =
 
 -- ---- bytes that are put into rows
 
+-- a dot whose byte stays
+pub dot_stays : (old new : List ℕ) (p : ℕ) → get_or new (p / 8) 0 ≡ get_or old (p / 8) 0 → row_dot new p ≡ row_dot old p
+dot_stays old new p same =
+    sym (row_dot-of_byte new (p / 8) p refl) ∙ ap (λ b. byte_dot b (p % 8)) same ∙ row_dot-of_byte old (p / 8) p refl
+
 module _ (rows bytes : List ℕ) (index k : ℕ) (long : length bytes ≡ k) (room : index + k ≤ length rows) where
   prefix_long : length (take index rows) ≡ index
   prefix_long = omega (arith, length-take index rows, room)
@@ -360,16 +374,15 @@ module _ (rows bytes : List ℕ) (index k : ℕ) (long : length bytes ≡ k) (ro
       ∙ ap (λ m. get_or rows m 0) (omega arith)
 
   pub put_elsewhere : (p : ℕ) → (p < 8 * index) ⊎ (8 * index + 8 * k ≤ p) → row_dot (put_mid index k rows bytes) p ≡ row_dot rows p
-  put_elsewhere p (inl before) =
-      sym (row_dot-of_byte (put_mid index k rows bytes) (p / 8) p refl) ∙ ap (λ b. byte_dot b (p % 8)) (put_below (p / 8) (omega arith)) ∙ row_dot-of_byte rows (p / 8) p refl
-  put_elsewhere p (inr past) =
-      sym (row_dot-of_byte (put_mid index k rows bytes) (p / 8) p refl) ∙ ap (λ b. byte_dot b (p % 8)) (put_above (p / 8) (omega arith)) ∙ row_dot-of_byte rows (p / 8) p refl
+  put_elsewhere p (inl before) = dot_stays rows (put_mid index k rows bytes) p (put_below (p / 8) (omega arith))
+  put_elsewhere p (inr past) = dot_stays rows (put_mid index k rows bytes) p (put_above (p / 8) (omega arith))
 
-  pub put_here : (word j : ℕ) → k ≡ 8 → bytes ≡ to_be_bytes w64 word → j < 64 → row_dot (put_mid index k rows bytes) (8 * index + j) ≡ word_dot word j
-  put_here word j eight is within =
-      let bit : (8 * index + j) % 8 ≡ j % 8 = omega arith in
-      sym (row_dot-of_byte (put_mid index k rows bytes) (index + j / 8) (8 * index + j) (omega arith))
-      ∙ (λ i. byte_dot (put_at (j / 8) (omega arith) i) (bit i))
-      ∙ ap (λ (all : List ℕ). byte_dot (get_or all (j / 8) 0) (j % 8)) is
-      ∙ byte_dot-to_be_bytes word (j / 8) (j % 8) (omega arith) (omega arith)
-      ∙ ap (word_dot word) (omega arith)
+-- the eight bytes of a word, put into a row from byte `index` on
+pub word_here : (row : List ℕ) (index word j : ℕ) → ((i : ℕ) → i < 8 → get_or row (index + i) 0 ≡ get_or (to_be_bytes w64 word) i 0) → j < 64
+    → row_dot row (8 * index + j) ≡ word_dot word j
+word_here row index word j is within =
+    let bit : (8 * index + j) % 8 ≡ j % 8 = omega arith in
+    sym (row_dot-of_byte row (index + j / 8) (8 * index + j) (omega arith))
+    ∙ (λ i. byte_dot (is (j / 8) (omega arith) i) (bit i))
+    ∙ byte_dot-to_be_bytes word (j / 8) (j % 8) (omega arith) (omega arith)
+    ∙ ap (word_dot word) (omega arith)

@@ -5,15 +5,15 @@ ghost use Rattle.std.specs.Prelude.{◌≡◌, ℕ, ◌<◌, ◌≤◌, ◌+◌,
 ghost use Rattle.std.specs.List.{range_with_len, sum_by};
 ghost use Rattle.press_bits.specs.Page.{HasNoDotOutside, black_at, black_in_line, blank, count_black, is_page_size};
 ghost use Rattle.press_bits.specs.Mark.{Row, IsInk, IsSolid, IsWhite, painted, row, row_dot, row_mark};
-ghost use Rattle.press_bits.specs.Lines.{ArePageLines, IsPageLine};
+ghost use Rattle.press_bits.specs.Lines.{ArePageLines, IsPageLine, eight_from};
 ghost use Rattle.press_bits.specs.Bands.{AreReady, StaysReady, band_at, band_lines, is_there};
 
 use crate::band::Band;
 use crate::dot_bytes;
-use crate::dot_bytes::line_bytes;
+use crate::dot_bytes::{is_black, line_bytes};
 use crate::dot_row::DotRow;
 use crate::making::make_bands;
-use crate::mode::Mode;
+use crate::mode::{Mode, TRANSPARENT};
 use crate::painting::run_within;
 use crate::repeats::Repeats;
 use crate::stroke::Stroke;
@@ -118,6 +118,25 @@ fn are_there(bands: &Vec<Band>, first: usize, end: usize) -> bool
     true
 }
 
+/// Eight dots of a column of a band, whose lines have so many bytes, from a line down.
+fn column_of(band: &[u8], size: usize, line: usize, x: usize) -> [bool; 8]
+    requires line { line ≤ 56 }
+    requires size { size ≤ WIDEST_ROW }
+    requires x { x < MAX_SIDE }
+    ensures { result ≡ eight_from (λ n. row_dot band.now (8 * (n * size) + x)) line }
+{
+    [
+        is_black(band, 8 * (line * size) + x),
+        is_black(band, 8 * ((line + 1) * size) + x),
+        is_black(band, 8 * ((line + 2) * size) + x),
+        is_black(band, 8 * ((line + 3) * size) + x),
+        is_black(band, 8 * ((line + 4) * size) + x),
+        is_black(band, 8 * ((line + 5) * size) + x),
+        is_black(band, 8 * ((line + 6) * size) + x),
+        is_black(band, 8 * ((line + 7) * size) + x),
+    ]
+}
+
 /// Equal bands.
 fn copied(alloc: Global, bands: &Vec<Band>) -> Result<Vec<Band>, AllocError>
     ensures { IfOk result (λ copy. copy.items ≡ bands.now.items) }
@@ -130,22 +149,17 @@ fn copied(alloc: Global, bands: &Vec<Band>) -> Result<Vec<Band>, AllocError>
 }
 
 impl Bands {
-    /// A white page, of which no band is there.
-    ///
-    /// # Errors
-    ///
-    /// Where memory ran out.
-    pub(crate) fn blank(alloc: Global, width: u32, height: u32) -> Result<Self, AllocError>
+    /// A white page, of which no band is there. It takes no memory.
+    pub(crate) fn blank(alloc: Global, width: u32, height: u32) -> Self
         requires { is_page_size width height ≡ true }
-        ensures { IfOk result (λ bands. bands.page ≡ blank width height) }
+        ensures { result.page ≡ blank width height }
     {
-        let bands = Vec::with_capacity(alloc, (height as usize + 63) / BAND)?;
-        Ok(Bands {
+        Bands {
             width,
             height,
-            bands,
+            bands: Vec::new(alloc),
             spare: Vec::new(alloc),
-        })
+        }
     }
 
     /// An equal page, of which the same bands are there.
@@ -204,7 +218,40 @@ impl Bands {
         if x >= self.width || y >= self.height {
             return false;
         }
-        dot_bytes::is_black(self.line(y), x as usize)
+        is_black(self.line(y), x as usize)
+    }
+
+    /// Eight dots of column `x` from line `y` down, asked one by one.
+    fn column_asked(&self, x: u32, y: u32) -> [bool; 8]
+        requires { y ≤ MAX_SIDE }
+        ensures { result ≡ eight_from (black_at self.now.page x) y }
+    {
+        [
+            self.get(x, y),
+            self.get(x, y + 1),
+            self.get(x, y + 2),
+            self.get(x, y + 3),
+            self.get(x, y + 4),
+            self.get(x, y + 5),
+            self.get(x, y + 6),
+            self.get(x, y + 7),
+        ]
+    }
+
+    /// Whether each of the eight dots of column `x` is black that lie in line `8 * index` and the seven lines below it; `false` outside
+    /// the page.
+    pub(crate) fn column(&self, x: u32, index: u32) -> [bool; 8]
+        ensures { result ≡ eight_from (black_at self.now.page x) (8 * index) }
+    {
+        if x >= self.width || index >= self.height.div_ceil(8) {
+            return [false; 8];
+        }
+        if index == self.height / 8 {
+            return self.column_asked(x, 8 * index);
+        }
+        let band = bytes_of(&self.bands, index as usize / 8);
+        let size = line_bytes(self.width as usize);
+        column_of(band, size, index as usize % 8 * 8, x as usize)
     }
 
     /// The bytes of a line: the most significant bit of the first byte is the leftmost dot, and 1 is black. The bits past the
@@ -369,7 +416,7 @@ impl Bands {
 
     /// Paints a row of source dots, which may all be black, through a row of a pattern.
     #[inline(always)]
-    fn paint_dots(
+    fn paint_through(
         &mut self,
         x: i64,
         y: i64,
@@ -406,6 +453,31 @@ impl Bands {
             ink,
         };
         self.bands[line / BAND].paint(start, &stroke);
+    }
+
+    /// The same, by code of its own where all white dots are transparent: no dot is made white there.
+    #[inline(always)]
+    fn paint_dots(
+        &mut self,
+        x: i64,
+        y: i64,
+        source: DotRow<'_>,
+        pattern: DotRow<'_>,
+        mode: Mode,
+        ink: bool,
+    )
+        requires some { 1 ≤ pattern.dots }
+        requires ready { IsWhite (row pattern) ⊎ AreReady self.old y 1 }
+        requires black { ink ≡ true → IsInk (row source) }
+        ensures painted { self.new.page
+            ≡ painted self.old.page (row_mark x y (row source.entry) (row pattern.entry) mode) }
+        ensures ready { self.new.ready ≡ self.old.ready }
+    {
+        if mode == TRANSPARENT {
+            self.paint_through(x, y, source, pattern, TRANSPARENT, ink);
+        } else {
+            self.paint_through(x, y, source, pattern, mode, ink);
+        }
     }
 
     /// Blackens so many dots of a line, from column `x` on, as a row of black dots does through solid black in any mode. Takes no

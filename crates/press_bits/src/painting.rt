@@ -82,28 +82,6 @@ fn paint_word(rows: &mut [u8], part: Part, line: usize, stroke: &Stroke<'_, '_>)
     put_word(rows, part.index, after);
 }
 
-/// Paints so many words of sixty-four dots of a stroke, from a byte on.
-#[inline(always)]
-fn paint_words(rows: &mut [u8], first: usize, words: usize, line: usize, stroke: &Stroke<'_, '_>)
-    requires room { first + 8 * words ≤ length rows.old }
-    requires small { length rows.old < 2 ^ 40 }
-    requires begun { 8 * line + stroke.now.run.first ≤ 8 * first }
-    requires left { 8 * first + 64 * words
-        ≤ 8 * line + stroke.now.run.first + stroke.now.run.count }
-    requires enough { stroke.now.run.skip + stroke.now.run.count ≤ stroke.now.source.dots }
-    ensures { IsPaintedFrom rows.old rows.new line stroke.now (8 * first) (8 * first + 64 * words) }
-{
-    for word in 0..words {
-        let index = first + 8 * word;
-        let part = Part {
-            index,
-            from: 8 * index,
-            to: 8 * index + 64,
-        };
-        paint_word(rows, part, line, stroke);
-    }
-}
-
 /// Paints these sixty-four dots of a stroke, from a byte on, through these dots of its pattern.
 #[inline(always)]
 fn mix_word(
@@ -169,36 +147,6 @@ fn mix_inner_words(
     }
 }
 
-/// The same, with a loop of its own where all white dots are transparent.
-#[inline(always)]
-fn mix_repeated(
-    rows: &mut [u8],
-    first: usize,
-    words: usize,
-    line: usize,
-    stroke: &Stroke<'_, '_>,
-    through: u64,
-)
-    requires room { first + 8 * words ≤ length rows.old }
-    requires small { length rows.old < 2 ^ 40 }
-    requires begun { 8 * line + stroke.now.run.first ≤ 8 * first }
-    requires left { 8 * first + 64 * words
-        ≤ 8 * line + stroke.now.run.first + stroke.now.run.count }
-    requires enough { stroke.now.run.skip + stroke.now.run.count ≤ stroke.now.source.dots }
-    requires through { (k j : ℕ) → j < 64 → word_dot through j
-        ≡ repeated (row stroke.now.through.pattern) (8 * (first - line) + 64 * k + j) }
-    requires inner { 0 < words → (stroke.now.run.skip + (8 * first
-        - (8 * line + stroke.now.run.first))) / 8 + 8 * words + 1
-        ≤ length stroke.now.source.bits.now }
-    ensures { IsPaintedFrom rows.old rows.new line stroke.now (8 * first) (8 * first + 64 * words) }
-{
-    if stroke.mode == TRANSPARENT {
-        mix_inner_words(rows, first, words, line, stroke, through, TRANSPARENT);
-    } else {
-        mix_inner_words(rows, first, words, line, stroke, through, stroke.mode);
-    }
-}
-
 /// Paints so many words of sixty-four dots of a stroke of ink, from a byte on, through these dots of its pattern, which come again at each
 /// word: no dot of the source is asked for.
 #[inline(always)]
@@ -236,84 +184,71 @@ fn ink_words(
     }
 }
 
-/// The same, with a loop of its own where all white dots are transparent.
+/// Paints words of sixty-four dots of a stroke whose pattern comes again at each, from a byte on, and says how many: at most `words`, and
+/// none where the pattern comes again otherwise. Words that the source may end in are left.
 #[inline(always)]
-fn ink_repeated(
+fn mix_words(
     rows: &mut [u8],
     first: usize,
     words: usize,
     line: usize,
     stroke: &Stroke<'_, '_>,
-    through: u64,
-)
-    requires ink { stroke.now.ink ≡ true }
+) -> usize
     requires room { first + 8 * words ≤ length rows.old }
     requires small { length rows.old < 2 ^ 40 }
     requires begun { 8 * line + stroke.now.run.first ≤ 8 * first }
     requires left { 8 * first + 64 * words
         ≤ 8 * line + stroke.now.run.first + stroke.now.run.count }
     requires enough { stroke.now.run.skip + stroke.now.run.count ≤ stroke.now.source.dots }
-    requires through { (k j : ℕ) → j < 64 → word_dot through j
-        ≡ repeated (row stroke.now.through.pattern) (8 * (first - line) + 64 * k + j) }
-    ensures { IsPaintedFrom rows.old rows.new line stroke.now (8 * first) (8 * first + 64 * words) }
-{
-    let mode = stroke.mode;
-    if mode == TRANSPARENT {
-        ink_words(rows, first, words, line, stroke, through, TRANSPARENT);
-    } else {
-        ink_words(rows, first, words, line, stroke, through, mode);
-    }
-}
-
-/// Paints so many words of sixty-four dots of a stroke, from a byte on: one whose pattern comes again at each word by a loop of its own.
-#[inline(always)]
-fn mix_words(rows: &mut [u8], first: usize, words: usize, line: usize, stroke: &Stroke<'_, '_>)
-    requires room { first + 8 * words ≤ length rows.old }
-    requires small { length rows.old < 2 ^ 40 }
-    requires begun { 8 * line + stroke.now.run.first ≤ 8 * first }
-    requires left { 8 * first + 64 * words
-        ≤ 8 * line + stroke.now.run.first + stroke.now.run.count }
-    requires enough { stroke.now.run.skip + stroke.now.run.count ≤ stroke.now.source.dots }
-    ensures { IsPaintedFrom rows.old rows.new line stroke.now (8 * first) (8 * first + 64 * words) }
+    ensures few { result ≤ words }
+    ensures painted { IsPaintedFrom rows.old rows.new line stroke.now
+        (8 * first) (8 * first + 64 * result) }
 {
     let Some(through) = stroke.through.each_word(8 * (first - line)) else {
-        paint_words(rows, first, words, line, stroke);
-        return;
+        return 0;
     };
     if stroke.ink {
-        ink_repeated(rows, first, words, line, stroke, through);
-        return;
+        ink_words(rows, first, words, line, stroke, through, stroke.mode);
+        return words;
     }
     let dot = stroke.run.skip + (8 * first - (8 * line + stroke.run.first));
     let behind = stroke.source.bits.len().saturating_sub(dot / 8 + 1);
     let inner = words.min(behind / 8);
-    mix_repeated(rows, first, inner, line, stroke, through);
-    paint_words(rows, first + 8 * inner, words - inner, line, stroke);
+    mix_inner_words(rows, first, inner, line, stroke, through, stroke.mode);
+    inner
 }
 
-/// Paints so many words of sixty-four dots of a stroke, from a byte on: where it is laid and its dots stand in whole bytes, these.
+/// The same, and where the stroke is laid and its dots stand in whole bytes, all of these words, as bytes.
 #[inline(always)]
-fn lay_words(rows: &mut [u8], first: usize, words: usize, line: usize, stroke: &Stroke<'_, '_>)
+fn lay_words(
+    rows: &mut [u8],
+    first: usize,
+    words: usize,
+    line: usize,
+    stroke: &Stroke<'_, '_>,
+) -> usize
     requires room { first + 8 * words ≤ length rows.old }
     requires small { length rows.old < 2 ^ 40 }
     requires begun { 8 * line + stroke.now.run.first ≤ 8 * first }
     requires left { 8 * first + 64 * words
         ≤ 8 * line + stroke.now.run.first + stroke.now.run.count }
     requires enough { stroke.now.run.skip + stroke.now.run.count ≤ stroke.now.source.dots }
-    ensures { IsPaintedFrom rows.old rows.new line stroke.now (8 * first) (8 * first + 64 * words) }
+    ensures few { result ≤ words }
+    ensures painted { IsPaintedFrom rows.old rows.new line stroke.now
+        (8 * first) (8 * first + 64 * result) }
 {
     let run = stroke.run;
     let dot = run.skip + (8 * first - (8 * line + run.first));
     if !stroke.laid || dot % 8 != 0 {
-        mix_words(rows, first, words, line, stroke);
-        return;
+        return mix_words(rows, first, words, line, stroke);
     }
     let bits = &stroke.source.bits[dot / 8..dot / 8 + 8 * words];
     rows[first..first + 8 * words].copy_from_slice(bits);
+    words
 }
 
 /// Paints dots of a stroke from dot `from` on that lie before dot `end`, and says before which: whole words where it begins with a
-/// byte, and else those in the same eight bytes.
+/// byte and they can be painted at once, and else those in the same eight bytes.
 #[inline(always)]
 fn paint_next(
     rows: &mut [u8],
@@ -335,14 +270,16 @@ fn paint_next(
 {
     let first = from / 8;
     let words = (end - from) / 64;
-    if from % 8 != 0 || words == 0 {
-        let index = first.min(rows.len() - 8);
-        let to = (8 * index + 64).min(end);
-        paint_word(rows, Part { index, from, to }, line, stroke);
-        return to;
+    if from % 8 == 0 && words > 0 {
+        let painted = lay_words(rows, first, words, line, stroke);
+        if painted > 0 {
+            return from + 64 * painted;
+        }
     }
-    lay_words(rows, first, words, line, stroke);
-    from + 64 * words
+    let index = first.min(rows.len() - 8);
+    let to = (8 * index + 64).min(end);
+    paint_word(rows, Part { index, from, to }, line, stroke);
+    to
 }
 
 /// The first of the bytes from one on and before another that may have a black dot, looked for by eight at a time.

@@ -44,6 +44,7 @@ pub(crate) struct Repeats<'p> {
 
 impl<'p> Repeats<'p> {
     /// A pattern, repeated.
+    #[inline(always)]
     pub(crate) fn of(pattern: DotRow<'p>) -> Self
         requires { 1 ≤ pattern.dots }
         ensures { result.pattern ≡ pattern.entry }

@@ -19,16 +19,9 @@ pub(crate) fn whole_word_at(bits: &[u8], index: usize) -> u64
     ensures count { count_by (row_dot bits.now) (range_with_len 0 (8 * (index + 8)))
         ≡ count_by (row_dot bits.now) (range_with_len 0 (8 * index)) + count_ones result }
 {
-    u64::from_be_bytes([
-        bits[index],
-        bits[index + 1],
-        bits[index + 2],
-        bits[index + 3],
-        bits[index + 4],
-        bits[index + 5],
-        bits[index + 6],
-        bits[index + 7],
-    ])
+    let mut bytes = [0; 8];
+    bytes.copy_from_slice(&bits[index..index + 8]);
+    u64::from_be_bytes(bytes)
 }
 
 /// The sixty-four dots of the eight bytes from one on, white past the last byte.
@@ -77,7 +70,7 @@ pub(crate) fn whole_word_from(bits: &[u8], index: usize, shift: usize) -> u64
     (left << shift) | (right >> (8 - shift))
 }
 
-/// Puts sixty-four dots into the eight bytes from one on. Swapped as a number, they are one store.
+/// Puts sixty-four dots into the eight bytes from one on. Swapped as a number, and put one by one, they are one store.
 #[inline(always)]
 pub fn put_word(rows: &mut [u8], index: usize, word: u64)
     requires { index + 8 ≤ length rows.old }
@@ -85,7 +78,10 @@ pub fn put_word(rows: &mut [u8], index: usize, word: u64)
     ensures elsewhere { (p : ℕ) → (p < 8 * index) ⊎ (8 * index + 64 ≤ p)
         → row_dot rows.new p ≡ row_dot rows.old p }
 {
-    rows[index..index + 8].copy_from_slice(&word.swap_bytes().to_le_bytes());
+    let bytes = word.swap_bytes().to_le_bytes();
+    for place in 0..8 {
+        rows[index + place] = bytes[place];
+    }
 }
 
 /// The first `count` dots of one word, and then dots of another from its first on.

@@ -5,8 +5,8 @@ use Rattle.press_bits.specs.Ranges.{IsPaintedFrom}
 use Rattle.press_bits.proofs.AlongLemmas.{laid_bytes}
 use Rattle.press_bits.proofs.painting.lay_words.Goals as goal
 
-pub returns : goal.returns
-returns c =
+pub returns-clause-painted : goal.returns-clause-painted
+returns-clause-painted c =
     let dot : ℕ = c.args.stroke.now.run.skip + (8 * c.args.first - (8 * c.args.line + c.args.stroke.now.run.first)) in
     let whole : dot ≡ 8 * (dot / 8) = omega (arith, c.if-dot-ne0.false) in
     let stop : 8 * (c.args.first + 8 * c.args.words) ≡ 8 * c.args.first + 64 * c.args.words = omega arith in

@@ -1,17 +1,30 @@
-use Rattle.std.proofs.Common.{◌+◌, ◌-◌, ◌≡◌, ◌*◌, ◌≤◌, length, inl, inr, ap, ◌∙◌, w64, arith}
+use Rattle.std.proofs.Common.{◌≡◌, ◌/◌, inl, inr, w64, get_or, refl, ap, ◌∙◌, arith}
 use Rattle.std.specs.Int.{to_le_bytes, to_be_bytes}
-use Rattle.press_bits.proofs.WordLemmas.{to_le_bytes-swap_bytes, put_here, put_elsewhere}
+use Rattle.std.proofs.lemmas.List.{get_or-set_other}
+use Rattle.std.proofs.lemmas.Grind.{get_or-set_at}
+use Rattle.press_bits.proofs.WordLemmas.{to_le_bytes-swap_bytes, dot_stays, word_here}
 use Rattle.press_bits.proofs.word.put_word.Goals as goal
+
+pub loop-place-init : goal.loop-place-init
+loop-place-init c = record {
+  here = λ i below. absurd (omega arith);
+  elsewhere = λ i off. refl;
+}
+
+pub loop-place-preserved : goal.loop-place-preserved
+loop-place-preserved c = record {
+  here = λ i below. grind (arith, get_or-set_at, get_or-set_other, c.loop-place.invariant.here);
+  elsewhere = λ i off. grind (arith, get_or-set_other, c.loop-place.invariant.elsewhere);
+}
 
 pub returns-clause-here : goal.returns-clause-here
 returns-clause-here c = λ j within.
-    let eight : c.args.index + 8 - c.args.index ≡ 8 = omega arith in
-    let bytes : c.copy_from_slice.new.self ≡ to_be_bytes w64 c.args.word =
-    c.copy_from_slice.ensures.after ∙ c.to_le_bytes.ensures ∙ ap (to_le_bytes w64) c.swap_bytes.ensures ∙ to_le_bytes-swap_bytes c.args.word in
-    put_here c.args.rows.now _ c.args.index (c.args.index + 8 - c.args.index) (ap length bytes ∙ omega arith) (omega arith) c.args.word j eight bytes within
+    let bytes : c.to_le_bytes-bytes.result ≡ to_be_bytes w64 c.args.word =
+    c.to_le_bytes-bytes.ensures ∙ ap (to_le_bytes w64) c.swap_bytes.ensures ∙ to_le_bytes-swap_bytes c.args.word in
+    word_here c.loop-place.rows c.args.index c.args.word j
+    (λ i below. c.loop-place.invariant.here i (omega arith) ∙ ap (λ all. get_or all i 0) bytes) within
 
 pub returns-clause-elsewhere : goal.returns-clause-elsewhere
 returns-clause-elsewhere c = λ p off.
-    let past : 8 * c.args.index + 64 ≤ p → 8 * c.args.index + 8 * (c.args.index + 8 - c.args.index) ≤ p = λ far. omega arith in
-    put_elsewhere c.args.rows.now _ c.args.index (c.args.index + 8 - c.args.index) (ap length (c.copy_from_slice.ensures.after ∙ c.to_le_bytes.ensures) ∙ omega arith) (omega arith) p
-    (elim off [ inl before ↦ inl before | inr far ↦ inr (past far) ])
+    dot_stays c.args.rows.now c.loop-place.rows p
+    (c.loop-place.invariant.elsewhere (p / 8) (elim off [ inl before ↦ inl (omega arith) | inr past ↦ inr (omega arith) ]))

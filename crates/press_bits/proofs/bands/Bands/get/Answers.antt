@@ -17,11 +17,6 @@ returns-then-x-self-clause-dot c =
       | then-x-self-via-else-x-self+then-y-self w ↦ absurd (omega (arith, within.1, high, w.if-y-self.true))
     ]))
 
-pub is_black-requires : goal.is_black-requires
-is_black-requires c =
-    let wide : c.args.self.now.page.width ≡ c.self.inside.width = sym (ap (λ (b : BandedPage). b.page.width) c.self.view_is) ∙ width-page_of_bands _ _ _ in
-    omega (arith, c.line.ensures.long, wide)
-
 pub line-requires : goal.line-requires
 line-requires c =
     let high : c.args.self.now.page.height ≡ c.self.inside.height = sym (ap (λ (b : BandedPage). b.page.height) c.self.view_is) ∙ height-page_of_bands _ _ _ in

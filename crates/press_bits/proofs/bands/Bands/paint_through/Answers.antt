@@ -11,7 +11,7 @@ use Rattle.press_bits.proofs.MarkLemmas.{unmarked, row_off_line, row_off_columns
 use Rattle.press_bits.specs.Bands.{BandedPage, is_there, band_at}
 use Rattle.press_bits.proofs.BandLemmas.{width-page_of_bands, height-page_of_bands, no_dot_outside, painted_band, painted_has}
 use Rattle.press_bits.proofs.BandLemmas.{stays_white, put_flags, band_ready, at_line, there_long, there_within, in_bytes}
-use Rattle.press_bits.proofs.bands.Bands.paint_dots.Goals as goal
+use Rattle.press_bits.proofs.bands.Bands.paint_through.Goals as goal
 
 pub returns-in_default-clause-painted : goal.returns-in_default-clause-painted
 returns-in_default-clause-painted c =

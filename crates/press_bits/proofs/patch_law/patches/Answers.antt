@@ -1,5 +1,5 @@
 use Rattle.press_bits.proofs.PatchLemmas.{patches_are_the_page, rows_are_the_patch}
-use Rattle.press_bits.proofs.laws.patches.Goals as goal
+use Rattle.press_bits.proofs.patch_law.patches.Goals as goal
 
 pub returns-clause-page : goal.returns-clause-page
 returns-clause-page c = patches_are_the_page
