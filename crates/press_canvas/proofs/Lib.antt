@@ -6,4 +6,5 @@ pub mod FrameLemmas
 mod CatchLemmas
 pub mod ColumnLemmas
 mod StripLemmas
+mod DotsLemmas
 pub mod worked

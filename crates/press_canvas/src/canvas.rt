@@ -1,8 +1,9 @@
 //! The page that marks are made on.
 
-ghost use Rattle.std.specs.Prelude.{◌≡◌, true, IfOk, IfSome, MatchOption, OnErr, OnOk};
+ghost use Rattle.std.specs.Prelude.{◌≡◌, ◌*◌, true, IfOk, IfSome, MatchOption, OnErr, OnOk};
 ghost use Rattle.std.specs.Borrow.{Lends, sem};
 ghost use Rattle.press_bits.specs.Page.{HasNoDotOutside, black_at, blank, is_page_size};
+ghost use Rattle.press_bits.specs.Lines.{eight_from};
 ghost use Rattle.press_bits.specs.Patches.{ChangedIn};
 ghost use Rattle.press_canvas.specs.Changes.{AgreeBesideLines};
 ghost use Rattle.press_canvas.specs.Turned.{extent, frame_page};
@@ -133,6 +134,13 @@ impl Canvas {
         ensures { result ≡ black_at self.now x y }
     {
         self.frame.get(x, y)
+    }
+
+    /// Whether each of eight dots of line `y` of the page is black, from dot `8 * index` on; `false` outside the page.
+    pub fn dots(&self, index: u32, y: u32) -> [bool; 8]
+        ensures { result ≡ eight_from (λ n. black_at self.now n y) (8 * index) }
+    {
+        self.frame.dots(index, y)
     }
 
     /// Becomes another page of this size. The answer is the region in which they differed: none exactly where they were equal. Pages that

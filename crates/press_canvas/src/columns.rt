@@ -6,7 +6,7 @@ ghost use Rattle.press_canvas.specs.Strip.{across, place_at, strip_dot, with_col
 ghost use Rattle.press_canvas.specs.Turned.{page_of_frame};
 
 use crate::lines::{place_at, put_row};
-use crate::strip::{STRIDE, STRIP, fill_strip};
+use crate::turned_strip::{STRIDE, STRIP, fill_strip};
 use press_bits::{Bitmap, WIDEST_ROW, white_bytes};
 use std::alloc::{AllocError, Global};
 

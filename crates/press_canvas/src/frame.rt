@@ -1,7 +1,8 @@
 //! Frames of pages.
 
-ghost use Rattle.std.specs.Prelude.{◌≡◌, ◌≢◌, ◌<◌, true, IfOk, IsErr, MatchOption, OnErr, OnOk};
+ghost use Rattle.std.specs.Prelude.{◌≡◌, ◌≢◌, ◌<◌, ◌≤◌, ◌*◌, true, IfOk, IsErr, MatchOption, OnErr, OnOk};
 ghost use Rattle.press_bits.specs.Page.{HasNoDotOutside, black_at, is_page_size};
+ghost use Rattle.press_bits.specs.Lines.{eight_from};
 ghost use Rattle.press_bits.specs.Patches.{ChangedIn};
 ghost use Rattle.press_page.specs.Place.{placed_dot};
 ghost use Rattle.press_page.specs.declared.media.Orientation.TheVariants.{Portrait};
@@ -10,7 +11,7 @@ ghost use Rattle.press_canvas.specs.Turned.{extent, frame_page, opposite};
 
 use crate::changes::{changed_dots, on_page, region_of};
 use crate::turning::{turned, turned_size};
-use press_bits::{Bitmap, Region};
+use press_bits::{Bitmap, MAX_SIDE, Region};
 use press_page::{Extent, Orientation};
 use std::alloc::{AllocError, Global};
 
@@ -94,6 +95,7 @@ impl Frame {
         ensures extent { result ≡ extent (frame_page self.now) }
         ensures fits { is_page_size result.width result.height ≡ true }
         ensures inside { HasNoDotOutside (frame_page self.now) }
+        ensures frame { HasNoDotOutside self.now.bitmap }
     {
         let (width, height) = (self.bitmap.width(), self.bitmap.height());
         turned_size(self.orientation, Extent { width, height })
@@ -109,6 +111,37 @@ impl Frame {
         }
         let (column, line) = placed_dot(self.orientation, page, x, y);
         self.bitmap.get(column, line)
+    }
+
+    /// Eight dots of a line of its page from dot `x` on, asked one by one.
+    fn dots_asked(&self, x: u32, y: u32) -> [bool; 8]
+        requires { x ≤ MAX_SIDE }
+        ensures { result ≡ eight_from (λ n. black_at (frame_page self.now) n y) x }
+    {
+        [
+            self.get(x, y),
+            self.get(x + 1, y),
+            self.get(x + 2, y),
+            self.get(x + 3, y),
+            self.get(x + 4, y),
+            self.get(x + 5, y),
+            self.get(x + 6, y),
+            self.get(x + 7, y),
+        ]
+    }
+
+    /// Whether each of eight dots of a line of its page is black, from dot `8 * index` on; `false` outside the page.
+    pub(crate) fn dots(&self, index: u32, y: u32) -> [bool; 8]
+        ensures { result ≡ eight_from (λ n. black_at (frame_page self.now) n y) (8 * index) }
+    {
+        let page = self.page_extent();
+        if index >= page.width.div_ceil(8) || y >= page.height {
+            return [false; 8];
+        }
+        match self.orientation {
+            Orientation::Landscape => self.bitmap.column(page.height - 1 - y, index),
+            _ => self.dots_asked(8 * index, y),
+        }
     }
 
     /// Takes over the lines of a region of another frame that lies so, outside of which they agree. The answer is the region of the pages in

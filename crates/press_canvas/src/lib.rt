@@ -7,7 +7,7 @@ mod changes;
 mod columns;
 mod frame;
 mod lines;
-mod strip;
+mod turned_strip;
 mod turning;
 
 pub use canvas::Canvas;

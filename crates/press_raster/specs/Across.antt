@@ -2,7 +2,7 @@
 -- Reference Manual, Raster Graphics). No public clause of this crate cites these.
 use Rattle.std.specs.Prelude.{◌≡◌, ◌≤◌, ℕ, ◌+◌, ◌-◌, ◌*◌, ◌/◌, nat_eq, min, pos, if◌then◌else◌, List, length}
 use Rattle.press_bits.specs.Bands.{BandedPage, AreReady}
-use Rattle.press_raster.specs.declared.strip.Across.{Across}
+use Rattle.press_raster.specs.declared.row_strip.Across.{Across}
 
 -- How many columns of a frame of this width rows of so many dots cover, each dot so many dots wide: what lies right of the frame
 -- is dropped.

@@ -16,8 +16,8 @@ ghost use Rattle.press_raster.specs.Rows.{with_item, with_items};
 ghost use Rattle.press_raster.specs.Settings.{items_of, row_height};
 
 use crate::raster::{MOST_ROWS, RasterPosition, RowData, RowPlace, is_within};
+use crate::row_strip::{Across, make_room, paint_across};
 use crate::settings::{RasterSettings, RowCoding};
-use crate::strip::{Across, make_room, paint_across};
 use press_bits::{Bands, DotRow, MAX_SIDE, line_bytes};
 use press_cursor::Cursor;
 use press_page::{FrameLines, PageEnv};

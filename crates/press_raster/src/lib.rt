@@ -3,8 +3,8 @@
 
 mod drawing;
 mod raster;
+mod row_strip;
 mod settings;
-mod strip;
 mod widening;
 
 pub use raster::{Raster, RasterPosition, RowPlace};

@@ -1,7 +1,7 @@
 use Rattle.std.proofs.Common.{◌≡◌, ℕ, ◌+◌, ◌*◌, ◌<◌, length}
 use Rattle.press_canvas.specs.Block.{block_dot}
 use Rattle.press_canvas.specs.Strip.{column_dot}
-use Rattle.press_canvas.proofs.strip.gather.Given as goal
+use Rattle.press_canvas.proofs.turned_strip.gather.Given as goal
 
 -- the lines so far
 abbrev pub invariant-loop-line : goal.invariant-loop-line

@@ -9,7 +9,7 @@ use Rattle.press_bits.proofs.MarkLemmas.{height-painted}
 use Rattle.press_page.specs.declared.media.Orientation.TheVariants.{Portrait}
 use Rattle.press_raster.specs.Mark.{strip_mark}
 use Rattle.press_raster.proofs.StripLemmas.{painted_row, painted_strip_no_lines, painted_strip_line, painted_strip_cut}
-use Rattle.press_raster.proofs.strip.paint_lines.Goals as goal
+use Rattle.press_raster.proofs.row_strip.paint_lines.Goals as goal
 
 pub loop-line-init : goal.loop-line-init
 loop-line-init c = (

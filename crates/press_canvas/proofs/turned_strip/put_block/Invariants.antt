@@ -2,7 +2,7 @@ use Rattle.std.proofs.Common.{◌≡◌, ℕ, ◌/◌, ◌%◌, ◌<◌, ◌&&�
 use Rattle.std.specs.Prelude.{nat_eq, nat_lt, if◌then◌else◌}
 use Rattle.press_canvas.specs.Block.{block_dot}
 use Rattle.press_canvas.specs.Strip.{strip_dot}
-use Rattle.press_canvas.proofs.strip.put_block.Given as goal
+use Rattle.press_canvas.proofs.turned_strip.put_block.Given as goal
 
 -- the lines so far are written
 abbrev pub invariant-loop-line : goal.invariant-loop-line

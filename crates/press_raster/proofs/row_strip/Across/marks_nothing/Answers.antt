@@ -3,7 +3,7 @@ use Rattle.press_bits.specs.Mark.{Row, row, row_dot}
 use Rattle.press_page.specs.declared.media.Orientation.TheVariants.{Portrait}
 use Rattle.press_raster.proofs.AcrossLemmas.{painted_beside}
 use Rattle.press_raster.proofs.StripLemmas.{painted_strip_white}
-use Rattle.press_raster.proofs.strip.Across.marks_nothing.Goals as goal
+use Rattle.press_raster.proofs.row_strip.Across.marks_nothing.Goals as goal
 
 pub returns-then-cut_length-eq0-clause-unmarked : goal.returns-then-cut_length-eq0-clause-unmarked
 returns-then-cut_length-eq0-clause-unmarked c =

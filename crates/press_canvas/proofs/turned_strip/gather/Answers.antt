@@ -5,7 +5,7 @@ use Rattle.press_bits.specs.Mark.{row_dot}
 use Rattle.press_bits.specs.Lines.{bytes_per_line}
 use Rattle.press_bits.specs.Words.{word_dot}
 use Rattle.press_canvas.proofs.StripLemmas.{gathered}
-use Rattle.press_canvas.proofs.strip.gather.Goals as goal
+use Rattle.press_canvas.proofs.turned_strip.gather.Goals as goal
 
 pub loop-line-preserved : goal.loop-line-preserved
 loop-line-preserved c = record {

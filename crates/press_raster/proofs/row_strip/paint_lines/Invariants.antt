@@ -2,7 +2,7 @@ use Rattle.std.proofs.Common.{◌≡◌}
 use Rattle.press_bits.specs.Mark.{painted, row_dot}
 use Rattle.press_page.specs.declared.media.Orientation.TheVariants.{Portrait}
 use Rattle.press_raster.specs.Mark.{strip_mark}
-use Rattle.press_raster.proofs.strip.paint_lines.Given as goal
+use Rattle.press_raster.proofs.row_strip.paint_lines.Given as goal
 
 -- the lines so far are painted, and the lines that are ready stay
 abbrev pub invariant-loop-line : goal.invariant-loop-line

@@ -9,7 +9,7 @@ use Rattle.press_page.specs.declared.media.Orientation.TheVariants.{Portrait}
 use Rattle.press_raster.specs.Mark.{strip_mark}
 use Rattle.press_raster.proofs.AcrossLemmas.{covered_end}
 use Rattle.press_raster.proofs.StripLemmas.{painted_raster}
-use Rattle.press_raster.proofs.strip.paint_wide.Goals as goal
+use Rattle.press_raster.proofs.row_strip.paint_wide.Goals as goal
 
 not_one : (n : ℕ) → n ≢ 1 → nat_eq n 1 ≡ false
 not_one n apart = grind (arith, nat_tests)

@@ -1,6 +1,6 @@
 use Rattle.std.proofs.Common.{◌≡◌, ℕ, ◌+◌, ◌*◌, ◌<◌, length}
 use Rattle.press_canvas.specs.Strip.{column_dot, strip_dot}
-use Rattle.press_canvas.proofs.strip.fill_strip.Given as goal
+use Rattle.press_canvas.proofs.turned_strip.fill_strip.Given as goal
 
 -- the words so far are written
 abbrev pub invariant-loop-band : goal.invariant-loop-band
