@@ -187,6 +187,14 @@ impl Cursor {
         self.move_to_first_line(vertical_motion, page);
     }
 
+    /// Goes home, as [`Cursor::at_home`] has it, and drops what was pushed.
+    pub fn go_home(&mut self, left_margin: u32, vertical_motion: u16, page: LogicalPage)
+        ensures { self.new ≡ home left_margin vertical_motion page }
+    {
+        self.move_home(left_margin, vertical_motion, page);
+        self.stack.clear();
+    }
+
     /// Moves to a position, or to the nearest one within the logical page.
     pub fn move_to(&mut self, position: CursorPosition, page: LogicalPage)
         ensures { self.new ≡ at position page self.old }

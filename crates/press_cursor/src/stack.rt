@@ -62,6 +62,13 @@ impl PositionStack {
         }
     }
 
+    /// Drops all positions.
+    pub fn clear(&mut self)
+        ensures { self.new ≡ [] }
+    {
+        self.depth = 0;
+    }
+
     /// The positions, the newest last.
     pub fn as_slice(&self) -> &[CursorPosition]
         ensures positions { result.now ≡ self.now }

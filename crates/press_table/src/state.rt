@@ -162,7 +162,11 @@ impl State {
         self.patterns.delete_temporary();
         self.macros.delete_temporary();
         self.graphics.end();
-        self.cursor = first_home(&environment);
+        self.cursor.go_home(
+            environment.margins.left,
+            environment.settings.vertical_motion,
+            environment.logical_page(),
+        );
     }
 
     /// What a line of the job language is told of the press.
