@@ -4,7 +4,7 @@
 mod body;
 mod carried;
 mod command;
-pub mod laws;
+pub mod grammar_laws;
 mod marks;
 mod payload;
 pub mod pjl;

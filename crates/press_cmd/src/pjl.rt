@@ -60,10 +60,9 @@ pub fn trimmed(bytes: &[u8]) -> &[u8]
 fn without_end(byte: u8, bytes: &[u8]) -> &[u8]
     ensures { result.now ≡ without_end byte bytes.now }
 {
-    if bytes.ends_with(&[byte]) {
-        &bytes[..bytes.len() - 1]
-    } else {
-        bytes
+    match bytes.split_last() {
+        Some((last, front)) if *last == byte => front,
+        _ => bytes,
     }
 }
 
@@ -153,9 +152,11 @@ pub fn language(line: &[u8]) -> Option<&[u8]>
         (λ language. (enters_language line.now ≡ true) × (language.now ≡ assigned_value line.now)) }
 {
     let (word, _) = command_of(line);
+    if !is_word(word, b"ENTER") || !begins_white(line_text(line)) {
+        return None;
+    }
     let (name, value) = assignment_of(line);
-    let enters = begins_white(line_text(line))
-        && (is_word(word, b"ENTER") && (is_word(name, b"LANGUAGE") && !value.is_empty()));
+    let enters = is_word(name, b"LANGUAGE") && !value.is_empty();
     if enters { Some(value) } else { None }
 }
 

@@ -66,7 +66,7 @@ fn broken_count(broken: &Broken) -> usize
 }
 
 /// The command with this number of its variant and these bytes, which it lends: the bytes of a record
-/// ([`crate::laws::stored_reads_back`]).
+/// ([`crate::grammar_laws::stored_reads_back`]).
 pub(crate) fn stored(variant: u8, bytes: &[u8]) -> Command<'_>
     requires bytes { bytes_of (token_from variant bytes.now) ≡ bytes.now }
     requires sound { IsSound (token_from variant bytes.now) }

@@ -1,5 +1,5 @@
 use Rattle.press_cmd.proofs.Splits.{split-append}
-use Rattle.press_cmd.proofs.laws.cutting.Goals as goal
+use Rattle.press_cmd.proofs.grammar_laws.cutting.Goals as goal
 
 pub returns : goal.returns
 returns c = split-append

@@ -1,6 +1,6 @@
 //! Laws of the grammar, each the contract of a function that does nothing.
 
-ghost use Rattle.press_cmd.specs.Laws.{NoCommandBeginsAnother, AtMostOneHead, AtMostOneSplit, AtLeastOneSplit, CuttingLaw};
+ghost use Rattle.press_cmd.specs.GrammarLaws.{NoCommandBeginsAnother, AtMostOneHead, AtMostOneSplit, AtLeastOneSplit, CuttingLaw};
 ghost use Rattle.press_cmd.specs.Stored.{IsSound, StoredReadsBack};
 ghost use Rattle.press_cmd.specs.Streams.{IsCommand};
 ghost use Rattle.press_cmd.specs.View.{token};
