@@ -14,7 +14,7 @@ use Rattle.press_engine.specs.declared.activation.ActivationEnd.{ActivationEnd}
 use Rattle.press_engine.specs.declared.activation.ActivationEnd.TheVariants as ends_by
 use Rattle.press_engine.specs.declared.machine.Machine.{Machine}
 use Rattle.press_engine.specs.Begun.{Begun, begun_only, begun_body, begun_close, begun, end_by}
-use Rattle.press_engine.specs.Laws.{IsOneStep}
+use Rattle.press_engine.specs.TraceLaws.{IsOneStep}
 use Rattle.press_engine.specs.Machine.{StepResult, with_state}
 
 -- of an item alone: as many bodies run as before, in the same step, and what goes out takes memory

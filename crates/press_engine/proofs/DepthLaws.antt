@@ -7,7 +7,7 @@ use Rattle.press_cmd.specs.Token.{Token}
 use Rattle.press_engine.specs.declared.activation.Activation.{Activation}
 use Rattle.press_engine.specs.declared.machine.Machine.{Machine}
 use Rattle.press_engine.specs.Begun.{Begun, end_of, begun_only}
-use Rattle.press_engine.specs.Laws.{BodiesAreBounded}
+use Rattle.press_engine.specs.TraceLaws.{BodiesAreBounded}
 use Rattle.press_engine.specs.Machine.{StepResult, then_run, deeper, macro_levels}
 use Rattle.press_engine.specs.Stack.{items_in, room_where}
 use Rattle.press_engine.specs.Trace.{last_machine, with_end, trace_each, trace_at}

@@ -10,7 +10,7 @@ use Rattle.press_table.specs.Table.{effect_on}
 use Rattle.press_engine.specs.declared.machine.Machine.{Machine}
 use Rattle.press_engine.specs.Begun.{begun_in_overlay, begun_outside, begun_close}
 use Rattle.press_engine.specs.Fold.{fold, effect_in_overlay, whole_in_overlay, close_behind, close_whole, effect_whole, effect_outside, whole_at, run, run_all}
-use Rattle.press_engine.specs.Laws.{Tells, TraceTellsTheRun, TraceGoesOn, OneStepIsTheRun}
+use Rattle.press_engine.specs.TraceLaws.{Tells, TraceTellsTheRun, TraceGoesOn, OneStepIsTheRun}
 use Rattle.press_engine.specs.Machine.{StepResult, silent, then_run, with_state, taken, enter_body, leave_body, state_of}
 use Rattle.press_engine.specs.Machine.{overlay_levels, enter_overlay, finish_without_overlay, macro_levels, source_at}
 use Rattle.press_engine.specs.Trace.{last_machine, joined, with_end, trace_each, begun_items, trace_in_overlay, inside_of, trace_at, trace}

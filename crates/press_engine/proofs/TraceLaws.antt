@@ -5,7 +5,7 @@ use Rattle.press_cmd.specs.Token.{Token}
 use Rattle.press_table.specs.declared.effect.Source.TheVariants as sources
 use Rattle.press_table.specs.Table.{effect_on}
 use Rattle.press_engine.specs.declared.machine.Machine.{Machine}
-use Rattle.press_engine.specs.Laws.{IsOneStep}
+use Rattle.press_engine.specs.TraceLaws.{IsOneStep}
 use Rattle.press_engine.specs.Machine.{StepResult, macro_levels}
 use Rattle.press_engine.specs.Trace.{last_machine, joined, with_end, trace_each, trace_at, trace, told_by}
 use Rattle.press_engine.proofs.CommandItems.{Taking, taking, effect_at, items_from, command-all}

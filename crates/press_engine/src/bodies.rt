@@ -53,7 +53,7 @@ impl Bodies {
     ghost use Rattle.press_table.specs.declared.effect.Source.TheVariants.{Stream};
     ghost use Rattle.press_table.specs.Memory.{TakesMemory};
     ghost use Rattle.press_engine.specs.Engine.{StepsTo, InnerTakesMemory};
-    ghost use Rattle.press_engine.specs.Laws.{most_bodies};
+    ghost use Rattle.press_engine.specs.TraceLaws.{most_bodies};
     ghost use Rattle.press_engine.specs.Running.{RunsTo, ComesToTakeMemory};
     ghost use Rattle.press_engine.specs.Machine.{macro_levels};
     ghost use Rattle.press_engine.specs.Stack.{HasNext, IsReady, continuation};

@@ -35,7 +35,7 @@ impl Engine {
     ghost use Rattle.press_cmd.specs.View.{token};
     ghost use Rattle.press_engine.specs.Machine.{power_on, macro_levels};
     ghost use Rattle.press_cmd.specs.Kinds.{kind_of};
-    ghost use Rattle.press_engine.specs.Laws.{most_bodies};
+    ghost use Rattle.press_engine.specs.TraceLaws.{most_bodies};
     ghost use Rattle.press_engine.specs.Stack.{HasNext, IsReady, continuation};
     ghost use Rattle.press_engine.specs.Trace.{trace_at};
     ghost use Rattle.press_table.specs.Outputs.{all_outputs};

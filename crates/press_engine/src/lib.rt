@@ -5,12 +5,12 @@ mod activation;
 mod bodies;
 mod engine;
 mod fault;
-pub mod laws;
 mod machine;
 mod passing;
 mod sender;
 mod step_output;
 mod stepping;
+pub mod trace_laws;
 mod view;
 
 pub use engine::Engine;

@@ -1,6 +1,6 @@
 use Rattle.std.proofs.Common.{◌≤◌, List, length, subst, reverse}
 use Rattle.press_engine.specs.declared.activation.Activation.{Activation}
-use Rattle.press_engine.specs.Laws.{most_bodies}
+use Rattle.press_engine.specs.TraceLaws.{most_bodies}
 use Rattle.press_engine.specs.Stack.{IsReady}
 use Rattle.press_engine.proofs.StackLemmas.{few-bodies}
 use Rattle.press_engine.proofs.bodies.Bodies.is_empty.Goals as goal

@@ -1,6 +1,6 @@
 //! What the trace of commands, a table step an item, has to do with carrying them out whole.
 
-ghost use Rattle.press_engine.specs.Laws.{TraceTellsTheRun, TraceGoesOn, OneStepIsTheRun, AtMostFourBodies};
+ghost use Rattle.press_engine.specs.TraceLaws.{TraceTellsTheRun, TraceGoesOn, OneStepIsTheRun, AtMostFourBodies};
 ghost use Rattle.press_engine.specs.PageKept.{OthersKeepThePage, RowsKeepOtherLines};
 ghost use Rattle.press_engine.specs.Passing.{PassingIsCounted};
 ghost use Rattle.press_engine.specs.Stepping.{InnerStepIsOwed, OuterStepIsOwed};
