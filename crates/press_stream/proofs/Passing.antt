@@ -1,5 +1,5 @@
 -- Commands of one byte each that a job takes at once.
-use Rattle.std.proofs.Common.{◌≡◌, ◌∙◌, ◌≤◌, ◌<◌, ℕ, zero, suc, List, [], ◌∷◌, ◌++◌, length, Bool, false, Option, Some, None, IsSome, IfSome, IsTrue, refl, sym, ap, subst, arith, append-nil}
+use Rattle.std.proofs.Common.{◌≡◌, ◌≢◌, ◌∙◌, ◌≤◌, ◌<◌, ◌+◌, ℕ, zero, suc, List, [], ◌∷◌, ◌++◌, length, Bool, false, Option, Some, None, IsSome, IfSome, IsTrue, refl, sym, ap, subst, arith, append-nil}
 use Rattle.std.specs.Prelude.{option_map}
 use Rattle.std.specs.List.{AllByRecursion}
 use Rattle.std.proofs.lemmas.List.{length-append}
@@ -28,13 +28,13 @@ use Rattle.press_stream.proofs.Going.{CarriesOn-none, passes-to_end}
 
 -- ---- what a scanner passes over
 
--- The end of input and the room stay, and there are fewer bytes.
-pub record StaysSo (old new : ScannerState) : Type 0 where
+-- The end of input and the room stay, and there are fewer bytes, by one for each command at least.
+pub record StaysSo (old : ScannerState) (count : ℕ) (new : ScannerState) : Type 0 where
   pub ended : new.ended ≡ old.ended
   pub room : new.room ≡ old.room
-  pub fewer : length new.bytes ≤ length old.bytes
+  pub fewer : count + length new.bytes ≤ length old.bytes
 
-pub each-stays : (given : List Token) (old new : ScannerState) → PassesEach old given new → StaysSo old new
+pub each-stays : (given : List Token) (old new : ScannerState) → PassesEach old given new → StaysSo old (length given) new
 each-stays [] old new is = rw is (record { ended = refl; room = refl; fewer = omega arith })
 each-stays (command ∷ given) old new (next, passes, others) =
     let more = each-stays given next new others in
@@ -93,6 +93,10 @@ CarriesIdle-some controls held next None new over running bytes some passes is =
 some_passed : (old : JobState) (count : ℕ) (new : JobState) → PassesRun old count new → 0 < count → PassesOrStays old count new
 some_passed old zero new run some = absurd (omega (arith, some))
 some_passed old (suc more) new run some = run
+
+pub some_fewer : (old : JobState) (count : ℕ) (new : JobState) → PassesOrStays old count new → count ≢ 0 → length new.held.bytes < length old.held.bytes
+some_fewer old zero new stays some = absurd (some refl)
+some_fewer old (suc more) new run some = omega (arith, run.count_is, (each-stays run.given old.held new.held run.each).fewer)
 
 -- a run of them
 pub passes_run : (controls : Bool) (old new : JobState) (over : Passed) → IsSome old.machine

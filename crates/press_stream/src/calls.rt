@@ -9,9 +9,9 @@ ghost use Rattle.press_stream.specs.Printed.{Prints, PrintedTo, Printed, TellsMe
 ghost use Rattle.press_stream.specs.State.{IsOver, opened};
 ghost use Rattle.press_stream.specs.Calls.{bytes_of, StopsHanded, StopsRead};
 
+use crate::call_laws;
 use crate::fault::JobError;
 use crate::job::Job;
-use crate::laws;
 use press_devices::ReadDevice;
 use press_sink::{ReplySink, SheetSink};
 use std::alloc::{AllocError, Global};
@@ -58,7 +58,7 @@ pub fn print_calls<S: SheetSink, P: ReplySink>(
         (logs (S.told sheets.new) (P.told replies.new)))) }
     ensures unread { IfErr result StopsHanded }
 {
-    laws::chain();
+    call_laws::chain();
     let mut job = Job::open(alloc)?;
     for call in calls {
         make(&mut job, *call, tag, sheets, replies)?;
@@ -144,7 +144,7 @@ fn run_calls<R: ReadDevice, S: SheetSink, P: ReplySink>(
     ensures cause { IsErrOf result JobError.ReadFault
         → ReadFails (R.failed reader.new) (R.reads reader.new) }
 {
-    laws::chain();
+    call_laws::chain();
     for call in calls {
         make(job, *call, tag, sheets, replies)?;
     }

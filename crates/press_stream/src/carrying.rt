@@ -136,11 +136,14 @@ pub fn take_on(
     ensures fits { IsOk result → Fits scanner.new engine.new phase.new }
 {
     loop {
-        pass(scanner, engine);
         match carry_plain(scanner, engine)? {
             Plain::Changed => {}
             Plain::Ran(step) => return Ok(JobStep::Ran(step)),
-            Plain::Other => return take(scanner, engine, phase),
+            Plain::Other => {
+                if pass(scanner, engine) == 0 {
+                    return take(scanner, engine, phase);
+                }
+            }
         }
     }
 }

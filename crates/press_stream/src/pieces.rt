@@ -8,9 +8,9 @@ ghost use Rattle.press_stream.specs.Printed.{Prints, PrintedTo, TellsMeaning};
 ghost use Rattle.press_stream.specs.Calls.{StopsHanded};
 ghost use Rattle.press_stream.specs.State.{IsOver};
 
+use crate::call_laws;
 use crate::fault::JobError;
 use crate::job::Job;
-use crate::laws;
 use press_sink::{ReplySink, SheetSink};
 use std::alloc::Global;
 
@@ -45,7 +45,7 @@ pub fn print_pieces<S: SheetSink, P: ReplySink>(
         (logs (S.told sheets.new) (P.told replies.new)))) }
     ensures unread { IfErr result StopsHanded }
 {
-    laws::chain();
+    call_laws::chain();
     let mut job = Job::open(alloc)?;
     for piece in pieces {
         job.feed(piece, tag, sheets, replies)?;
