@@ -22,7 +22,7 @@ use Rattle.press_trace.specs.declared.place.Place.{Place}
 use Rattle.press_trace.specs.declared.tracer.Tracer.{Tracer}
 use Rattle.press_trace.specs.Places.{Placed, from_on}
 use Rattle.press_trace.specs.Runs.{OnlyCount, last_behind}
-use Rattle.press_trace.specs.Standing.{StandsBehind}
+use Rattle.press_trace.specs.Standing.{TracerStandsBehind}
 use Rattle.press_trace.specs.Tracing.{TakesOne}
 use Rattle.press_trace.proofs.Fewer.{fewer_left}
 use Rattle.press_trace.proofs.Standing.{one_step}
@@ -38,13 +38,13 @@ Chain old (one ∷ others) new =
     (between : Tracer) × (takes : TakesOne old between) × (one ≡ item_of old between takes) × Chain between others new
 
 pub chain_stands : (bytes : List ℕ) (placed : List Placed) (old : Tracer) (items : List Placed) (new : Tracer) → Chain old items new
-    → StandsBehind bytes placed old → StandsBehind bytes (placed ++ items) new
+    → TracerStandsBehind bytes placed old → TracerStandsBehind bytes (placed ++ items) new
 chain_stands bytes placed old [] new same behind =
-    subst (λ (all : List Placed). StandsBehind bytes all new) (sym (append-nil placed)) (subst (StandsBehind bytes placed) same behind)
+    subst (λ (all : List Placed). TracerStandsBehind bytes all new) (sym (append-nil placed)) (subst (TracerStandsBehind bytes placed) same behind)
 chain_stands bytes placed old (one ∷ others) new (between, takes, is, more) behind =
-    let here : StandsBehind bytes (placed ++ one ∷ []) between =
-    subst (λ (item : Placed). StandsBehind bytes (placed ++ item ∷ []) between) (sym is) (one_step bytes placed old between behind takes) in
-    subst (λ (all : List Placed). StandsBehind bytes all new) (append_assoc placed (one ∷ []) others) (chain_stands bytes (placed ++ one ∷ []) between others new more here)
+    let here : TracerStandsBehind bytes (placed ++ one ∷ []) between =
+    subst (λ (item : Placed). TracerStandsBehind bytes (placed ++ item ∷ []) between) (sym is) (one_step bytes placed old between behind takes) in
+    subst (λ (all : List Placed). TracerStandsBehind bytes all new) (append_assoc placed (one ∷ []) others) (chain_stands bytes (placed ++ one ∷ []) between others new more here)
 
 pub chain_fewer : (old : Tracer) (items : List Placed) (new : Tracer) → Chain old items new → length (items_left new.job) ≤ length (items_left old.job)
 chain_fewer old [] new same = omega (arith, ap (λ (one : Tracer). length (items_left one.job)) same)
@@ -161,7 +161,7 @@ module _ (final : Tracer) (some : IsSome final.before) where
   )
 
   -- where no body runs the place of the last step is of no account
-  other_place : (bytes : List ℕ) (placed : List Placed) (held : ScannerState) (machine : Machine) (place other : Place) → StandsBehind bytes placed (at held machine place) → StandsBehind bytes placed (at held machine other)
+  other_place : (bytes : List ℕ) (placed : List Placed) (held : ScannerState) (machine : Machine) (place other : Place) → TracerStandsBehind bytes placed (at held machine place) → TracerStandsBehind bytes placed (at held machine other)
   other_place bytes placed held machine place other behind = record {
     pieces = behind.pieces;
     prefix = behind.prefix;
@@ -178,6 +178,6 @@ module _ (final : Tracer) (some : IsSome final.before) where
   }
 
   pub stands_at_end : (bytes : List ℕ) (placed : List Placed) (held : ScannerState) (machine : Machine) (place : Place) → final.job ≡ job_at held machine
-      → StandsBehind bytes placed (at held machine place) → StandsBehind bytes placed final
+      → TracerStandsBehind bytes placed (at held machine place) → TracerStandsBehind bytes placed final
   stands_at_end bytes placed held machine place same behind =
-      subst (λ (job : JobState). StandsBehind bytes placed (record final { job = job })) (sym same) (other_place bytes placed held machine place final.place behind)
+      subst (λ (job : JobState). TracerStandsBehind bytes placed (record final { job = job })) (sym same) (other_place bytes placed held machine place final.place behind)

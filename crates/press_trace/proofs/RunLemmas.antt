@@ -24,7 +24,7 @@ use Rattle.press_trace.specs.declared.tracer.Tracer.{Tracer}
 use Rattle.press_trace.specs.Lines.{AreLines, IsLine, IsLineOf}
 use Rattle.press_trace.specs.Places.{Placed, from_on, runs_of}
 use Rattle.press_trace.specs.Runs.{AreRunLines, AreTold, IsNextLine, IsRunLine, ItemRun, OnlyCount, items_in, items_of, last_behind, machine_if, place_through, through}
-use Rattle.press_trace.specs.Standing.{StandsBehind}
+use Rattle.press_trace.specs.Standing.{TracerStandsBehind}
 use Rattle.press_trace.specs.Traced.{last_of}
 use Rattle.press_trace.specs.Tracing.{TellsBy, TellsOne, TellsRun, placed_run, told_before}
 use Rattle.press_trace.proofs.Chains.{Chain, at, chain_fewer, chain_from, chain_stands, each-ended, each-fewer, item_of, items-count, items-length, items_over, job_at, last-end, last-run, passed_item, stands_at_end}
@@ -109,8 +109,8 @@ machine-of before (first ∷ placed) = machine-of (Some first.run.machine) place
 -- The next line tells these items, and it stands behind them then.
 pub record TellsNext (by : LineOf) (old : Tracer) (line : List ℕ) (new : Tracer) : Type 0 where
   pub next : List Placed
-  pub stands : (bytes : List ℕ) (placed : List Placed) → StandsBehind bytes placed old → StandsBehind bytes (placed ++ next) new
-  pub is_line : (bytes : List ℕ) (placed : List Placed) → StandsBehind bytes placed old → IsNextLine by (last_of None placed) next line
+  pub stands : (bytes : List ℕ) (placed : List Placed) → TracerStandsBehind bytes placed old → TracerStandsBehind bytes (placed ++ next) new
+  pub is_line : (bytes : List ℕ) (placed : List Placed) → TracerStandsBehind bytes placed old → IsNextLine by (last_of None placed) next line
   pub still : new.length ≡ old.length
   pub going : new.job.held.ended ≡ old.job.held.ended
   pub fewer : length (items_left new.job) < length (items_left old.job)
@@ -119,10 +119,10 @@ module _ (old : Tracer) (line : List ℕ) (new : Tracer) (tells : TellsOne old l
   abbrev one : Placed
   one = item_of old new tells.one
 
-  line-behind : (bytes : List ℕ) (placed : List Placed) → StandsBehind bytes placed old → IsLine (last_of None placed) one line
+  line-behind : (bytes : List ℕ) (placed : List Placed) → TracerStandsBehind bytes placed old → IsLine (last_of None placed) one line
   line-behind bytes placed behind = subst (λ (before : Option Machine). IsLine before one line) behind.told tells.is_line
 
-  next_line-by : (by : LineOf) (bytes : List ℕ) (placed : List Placed) → StandsBehind bytes placed old → IsNextLine by (last_of None placed) (one ∷ []) line
+  next_line-by : (by : LineOf) (bytes : List ℕ) (placed : List Placed) → TracerStandsBehind bytes placed old → IsNextLine by (last_of None placed) (one ∷ []) line
   next_line-by Step bytes placed behind = (one, refl, line-behind bytes placed behind)
   next_line-by Run bytes placed behind = (record { first = one; others = [] }, refl, line-behind bytes placed behind)
 
@@ -165,7 +165,7 @@ module _ (old : Tracer) (line : List ℕ) (new : Tracer) (within : length old.jo
           tells.passes.idle.0 tells.passes.going.0 none,
     )
 
-    run-stands : (bytes : List ℕ) (placed : List Placed) → StandsBehind bytes placed old → StandsBehind bytes (placed ++ first ∷ rest) new
+    run-stands : (bytes : List ℕ) (placed : List Placed) → TracerStandsBehind bytes placed old → TracerStandsBehind bytes (placed ++ first ∷ rest) new
     run-stands bytes placed behind =
         stands_at_end new tells.told bytes (placed ++ first ∷ rest) new.job.held (passed_each (command ∷ given) from) whole_chain.0 same_job
         (chain_stands bytes placed old (first ∷ rest) _ whole_chain.1 behind)
@@ -196,7 +196,7 @@ module _ (old : Tracer) (line : List ℕ) (new : Tracer) (within : length old.jo
     count-is : suc tells.more ≡ length (first ∷ rest)
     count-is = count ∙ ap suc (sym (items-length new tells.told given next new.job.held others behind_one))
 
-    run-line : (bytes : List ℕ) (placed : List Placed) → StandsBehind bytes placed old → IsRunLine (last_of None placed) first rest line
+    run-line : (bytes : List ℕ) (placed : List Placed) → TracerStandsBehind bytes placed old → IsRunLine (last_of None placed) first rest line
     run-line bytes placed behind =
         let starts : from ≡ machine_if (last_of None placed) =
         same_some old.job.machine from behind.machine tells.passes.starts behind.running ∙ behind.state ∙ sym (machine-of None placed) in

@@ -26,7 +26,7 @@ use Rattle.press_trace.specs.declared.place.Place.{Place}
 use Rattle.press_trace.specs.declared.seen.Seen.{Seen}
 use Rattle.press_trace.specs.declared.tracer.Tracer.{Tracer}
 use Rattle.press_trace.specs.Places.{Piece, Placed, Opens, ArePrefix, AreWhole, IsPlacedSoFar, IsPlacedTrace, commands_of, placed_at, placed_from, placed_exit, from_on, machine_after, runs_of}
-use Rattle.press_trace.specs.Standing.{StandsBehind, exit_if, taken_so_far}
+use Rattle.press_trace.specs.Standing.{TracerStandsBehind, exit_if, taken_so_far}
 use Rattle.press_trace.specs.Traced.{AreFirst, last_of}
 use Rattle.press_trace.specs.Tracing.{IsAtStart, TakesOne, place_of, told_before, with_more}
 use Rattle.press_trace.proofs.PlaceLemmas.{bytes_in, prefix-then, prefix-length, placed-then, runs-at, runs-append, runs-from, last-from, commands-then, whole-prefix, whole-steps, whole-more, whole-then}
@@ -49,7 +49,7 @@ none_first bytes =
       places = refl;
     }
 
-pub at_start : (tracer : Tracer) → IsAtStart tracer → StandsBehind [] [] tracer
+pub at_start : (tracer : Tracer) → IsAtStart tracer → TracerStandsBehind [] [] tracer
 at_start tracer start = record {
   pieces = [];
   prefix = (sym (ap (λ (job : JobState). job.held.mode) start.job), sym (ap (λ (job : JobState). job.held.bytes) start.job));
@@ -74,8 +74,8 @@ closes-behind : (bytes : List ℕ) (pieces : List Piece) (held : ScannerState) �
     → (commands : List Token) → ClosedFrom held.mode held.bytes commands → ClosedFrom Exit bytes (commands_of pieces ++ commands)
 closes-behind bytes pieces held whole = end_reaches.ends bytes (commands_of pieces) held (whole-steps Exit bytes pieces held.mode held.bytes whole)
 
-module _ (bytes : List ℕ) (placed : List Placed) (old : Tracer) (behind : StandsBehind bytes placed old) where
-  pub piece_more : (piece : List ℕ) → old.job.held.ended ≡ false → StandsBehind (bytes ++ piece) placed (with_more piece old)
+module _ (bytes : List ℕ) (placed : List Placed) (old : Tracer) (behind : TracerStandsBehind bytes placed old) where
+  pub piece_more : (piece : List ℕ) → old.job.held.ended ≡ false → TracerStandsBehind (bytes ++ piece) placed (with_more piece old)
   piece_more piece going =
       let held = (with_more piece old).job.held in
       let whole = whole-more Exit bytes piece behind.pieces old.job.held.mode old.job.held.bytes (behind.whole going) in
@@ -98,9 +98,9 @@ module _ (bytes : List ℕ) (placed : List Placed) (old : Tracer) (behind : Stan
         long = ap (λ n. n + length piece) behind.long ∙ sym (length-append bytes piece);
       }
 
-  pub no_more : (new : Tracer) → new ≡ record old { job = input_ended old.job } → StandsBehind bytes placed new
-  no_more new is = subst (λ (now : Tracer). StandsBehind bytes placed now) (sym is) here where
-    here : StandsBehind bytes placed (record old { job = input_ended old.job })
+  pub no_more : (new : Tracer) → new ≡ record old { job = input_ended old.job } → TracerStandsBehind bytes placed new
+  no_more new is = subst (λ (now : Tracer). TracerStandsBehind bytes placed now) (sym is) here where
+    here : TracerStandsBehind bytes placed (record old { job = input_ended old.job })
     here = record {
       pieces = behind.pieces;
       prefix = behind.prefix;
@@ -160,7 +160,7 @@ told-then new machine placed one some is = by new.before some where
   by (Some seen) here = is ∙ sym (last_of-then None placed one)
 
 -- ---- the three kinds of steps
-module _ (bytes : List ℕ) (placed : List Placed) (old new : Tracer) (behind : StandsBehind bytes placed old) (tells : TakesOne old new) where
+module _ (bytes : List ℕ) (placed : List Placed) (old new : Tracer) (behind : TracerStandsBehind bytes placed old) (tells : TakesOne old new) where
   abbrev one : Placed
   one = record { place = new.place; run = tells.item }
 
@@ -172,7 +172,7 @@ module _ (bytes : List ℕ) (placed : List Placed) (old new : Tracer) (behind : 
       (λ i. placed ++ placed_at (sym is i) (tells.item ∷ runs))
       ∙ sym (append_assoc placed (one ∷ []) (placed_at new.place runs))
 
-  pub in_body : TakesNothing old.job tells.does.given new.job → StandsBehind bytes (one_more placed new.place tells.item) new
+  pub in_body : TakesNothing old.job tells.does.given new.job → TracerStandsBehind bytes (one_more placed new.place tells.item) new
   in_body (running, nothing, held, exited) =
       let owing : continuation old.job.bodies behind.machine ≡ tells.item ∷ continuation new.job.bodies tells.item.machine =
       ap (continuation old.job.bodies) (sym from-is) ∙ sym (left-none old.job.bodies tells.does.from)
@@ -242,7 +242,7 @@ module _ (bytes : List ℕ) (placed : List Placed) (old new : Tracer) (behind : 
 
     command_taken : (closes : (commands : List Token) → ClosedFrom new.job.held.mode new.job.held.bytes commands → ClosedFrom Exit bytes (commands_of (pieces ++ piece ∷ []) ++ commands))
         → (whole : new.job.held.ended ≡ false → AreWhole Exit bytes (pieces ++ piece ∷ []) new.job.held.mode new.job.held.bytes)
-        → StandsBehind bytes (one_more placed new.place tells.item) new
+        → TracerStandsBehind bytes (one_more placed new.place tells.item) new
     command_taken closes whole = record {
       pieces = pieces ++ piece ∷ [];
       prefix = prefix-then Exit bytes pieces old.job.held.mode old.job.held.bytes piece new.job.held.bytes new.job.held.mode behind.prefix cut opens;
@@ -271,7 +271,7 @@ module _ (bytes : List ℕ) (placed : List Placed) (old new : Tracer) (behind : 
     commands-with commands =
         sym (append_assoc (commands_of pieces) (command ∷ []) commands) ∙ ap (λ (these : List Token). these ++ commands) (sym (commands-then pieces piece))
 
-  pub next_command : TakesHeld old.job tells.does.given new.job → StandsBehind bytes (one_more placed new.place tells.item) new
+  pub next_command : TakesHeld old.job tells.does.given new.job → TracerStandsBehind bytes (one_more placed new.place tells.item) new
   next_command (command, is, idle, going, still, passes) = by old.job.held.ended refl where
     opens : (used : List ℕ) → old.job.held.bytes ≡ used ++ new.job.held.bytes
         → Head old.job.held.mode used new.job.held.bytes command new.job.held.mode
@@ -285,7 +285,7 @@ module _ (bytes : List ℕ) (placed : List Placed) (old new : Tracer) (behind : 
           subst (λ (all : List ℕ). ClosesAs (scanned_in old.job.held.mode all) used new.job.held.bytes command new.job.held.mode) cut closes,
         )
 
-    by : (ended : Bool) → old.job.held.ended ≡ ended → StandsBehind bytes (one_more placed new.place tells.item) new
+    by : (ended : Bool) → old.job.held.ended ≡ ended → TracerStandsBehind bytes (one_more placed new.place tells.item) new
     by true ended =
         let found = passes.prefix ended in
         command_taken command is idle going still found.0 found.1 (opens found.0 found.1 found.2)
@@ -299,7 +299,7 @@ module _ (bytes : List ℕ) (placed : List Placed) (old new : Tracer) (behind : 
         let whole = whole-then Exit bytes behind.pieces old.job.held.mode old.job.held.bytes piece new.job.held.bytes new.job.held.mode (behind.whole more) found.1 found.2 in
         command_taken command is idle going still found.0 found.1 (inl found.2) (closes-behind bytes (behind.pieces ++ piece ∷ []) new.job.held whole) (λ _. whole)
 
-  pub the_exit : TakesExit old.job tells.does.given new.job → StandsBehind bytes (one_more placed new.place tells.item) new
+  pub the_exit : TakesExit old.job tells.does.given new.job → TracerStandsBehind bytes (one_more placed new.place tells.item) new
   the_exit (is, idle, going, out, held, ended, done) =
       let pieces = behind.pieces in
       let nothing : old.job.held.bytes ≡ [] = done.nothing ended in
@@ -329,9 +329,9 @@ module _ (bytes : List ℕ) (placed : List Placed) (old new : Tracer) (behind : 
         long = tells.still ∙ behind.long;
       }
 
-  pub one_step : StandsBehind bytes (one_more placed new.place tells.item) new
+  pub one_step : TracerStandsBehind bytes (one_more placed new.place tells.item) new
   one_step = by tells.does.takes where
-    by : TakesGiven old.job tells.does.given new.job → StandsBehind bytes (one_more placed new.place tells.item) new
+    by : TakesGiven old.job tells.does.given new.job → TracerStandsBehind bytes (one_more placed new.place tells.item) new
     by (inl takes) = in_body takes
     by (inr (inl takes)) = next_command takes
     by (inr (inr takes)) = the_exit takes
@@ -346,7 +346,7 @@ exit_behind commands machine is =
     ∙ ap (λ (items : List StepResult). trace commands power_on ++ items) (sym (append-nil (trace_at macro_levels Uel (last_machine power_on (trace commands power_on)))))
     ∙ sym (trace_each-append (trace_at macro_levels) commands (Uel ∷ []) power_on)
 
-module _ (bytes : List ℕ) (placed : List Placed) (now : Tracer) (behind : StandsBehind bytes placed now) where
+module _ (bytes : List ℕ) (placed : List Placed) (now : Tracer) (behind : TracerStandsBehind bytes placed now) where
   after_commands : machine_after behind.pieces power_on ≡ last_machine power_on (trace (commands_of behind.pieces) power_on)
   after_commands = sym (last-from 0 behind.pieces power_on) ∙ ap (last_machine power_on) (runs-from 0 behind.pieces power_on)
 

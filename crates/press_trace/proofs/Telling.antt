@@ -12,7 +12,7 @@ use Rattle.press_stream.specs.State.{IsOver, NeedsInput, input_ended, opened}
 use Rattle.press_trace.specs.declared.fault.TraceError.TheVariants.{ReadFault, Output, NoMemory}
 use Rattle.press_trace.specs.declared.tracer.Tracer.{Tracer}
 use Rattle.press_trace.specs.Traced.{TracedBy, Traces, TracesSoFar, StopsTellingBy, StopsTracing}
-use Rattle.press_trace.specs.Standing.{Further, HasTold, StandsBehind, TellsFurther, TellsRead, TellsToEnd}
+use Rattle.press_trace.specs.Standing.{Further, HasTold, TracerStandsBehind, TellsFurther, TellsRead, TellsToEnd}
 use Rattle.press_trace.specs.declared.fault.TraceError.{TraceError}
 use Rattle.press_trace.specs.Tracing.{IsAtStart, IsSound, with_more}
 use Rattle.press_trace.specs.declared.line_of.LineOf.{LineOf}
@@ -115,7 +115,7 @@ module _ (by : LineOf) (bytes : List ℕ) (old now : Option (List ℕ)) (tracer 
   -- ---- a line more
 
   module _ (new : Tracer) (line : List ℕ) (tells : TellsNext by tracer line new) where
-    stands : StandsBehind bytes (told.placed ++ tells.next) new
+    stands : TracerStandsBehind bytes (told.placed ++ tells.next) new
     stands = tells.stands bytes told.placed told.behind
 
     pub more_told : (after : Option (List ℕ)) → IsSound new → Appends now after line → HasTold by bytes old after new

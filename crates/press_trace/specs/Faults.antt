@@ -1,7 +1,7 @@
 -- What is told of a trace that ended early (this profile).
 use Rattle.std.specs.Prelude.{ℕ, List, Some, None}
 use Rattle.press_devices.specs.Faults.{read_fault}
-use Rattle.press_telling.specs.Telling.{output_text}
+use Rattle.press_devices.specs.Telling.{output_text}
 use Rattle.press_units.specs.Faults.{fault_text}
 use Rattle.press_trace.specs.declared.fault.TraceError.{TraceError}
 use Rattle.press_trace.specs.declared.fault.TraceError.TheVariants as errors

@@ -28,7 +28,7 @@ taken_so_far exited long pieces = placed_from 0 pieces power_on ++ exit_if exite
 
 -- It stands behind these items of a stream of which these bytes came: they are those of the pieces that were taken, but for what bodies
 -- still owe. What closes what is held closes the bytes behind the commands of the pieces; before the end each piece is a whole command.
-pub record StandsBehind (bytes : List ℕ) (placed : List Placed) (now : Tracer) : Type 0 where
+pub record TracerStandsBehind (bytes : List ℕ) (placed : List Placed) (now : Tracer) : Type 0 where
   pub pieces : List Piece
   pub prefix : ArePrefix Exit bytes pieces now.job.held.mode now.job.held.bytes
   pub closes : (commands : List Token) → ClosedFrom now.job.held.mode now.job.held.bytes commands → ClosedFrom Exit bytes (commands_of pieces ++ commands)
@@ -46,7 +46,7 @@ pub record StandsBehind (bytes : List ℕ) (placed : List Placed) (now : Tracer)
 pub record HasTold (by : LineOf) (bytes : List ℕ) (old now : Option (List ℕ)) (tracer : Tracer) : Type 0 where
   pub placed : List Placed
   pub text : List ℕ
-  pub behind : StandsBehind bytes placed tracer
+  pub behind : TracerStandsBehind bytes placed tracer
   pub sound : IsSound tracer
   pub lines : AreTold by placed text
   pub written : Appends old now text

@@ -1,7 +1,6 @@
 //! Why the telling of a trace ended early, and what is told of it (this profile).
 
-use press_devices::{READ_FAULT, ReadFailed};
-use press_telling::NO_OUTPUT;
+use press_devices::{NO_OUTPUT, READ_FAULT, ReadFailed};
 use press_units::ToldFault;
 use std::alloc::AllocError;
 use std::error::Error;

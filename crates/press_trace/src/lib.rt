@@ -5,12 +5,12 @@
 mod appending;
 mod fault;
 mod fields;
-pub mod laws;
 mod line;
 mod line_of;
 mod members;
 mod page;
 mod place;
+pub mod rebuilding;
 mod rows;
 mod seen;
 mod sent;

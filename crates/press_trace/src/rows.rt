@@ -1,6 +1,6 @@
 //! The rows of a region of a page.
 
-ghost use Rattle.std.specs.Prelude.{◌≡◌, ◌++◌, ◌+◌, ◌*◌, ◌^◌, ◌<◌, ◌≤◌, ℕ, length, slice_index, if◌then◌else◌, IfOk, OnOk};
+ghost use Rattle.std.specs.Prelude.{◌≡◌, ◌++◌, ◌+◌, ◌*◌, ◌<◌, ◌≤◌, ℕ, length, slice_index, if◌then◌else◌, OnOk};
 ghost use Rattle.hex.specs.Hex.{encode_upper};
 ghost use Rattle.serde_json.specs.Data.{array, string};
 ghost use Rattle.serde_json.specs.View.{items_of};
@@ -15,7 +15,7 @@ use press_bits::{Bitmap, Region, WIDEST_ROW};
 use press_canvas::Canvas;
 use std::alloc::{AllocError, Global};
 
-/// The rows of a page that does not lie upright are gathered dot by dot where they have at most so many bytes.
+/// The rows of a page that does not lie upright are gathered by eight dots where they have at most so many bytes.
 const MOST_GATHERED: usize = 16;
 
 /// Appends bytes of a line of a page.
@@ -45,42 +45,42 @@ fn append_read(page: &Bitmap, region: Region, text: &mut Vec<u8>) -> Result<(), 
     Ok(())
 }
 
-/// The bit of a dot of a page.
-fn dot_at(page: &Canvas, x: u32, y: u32) -> u8
-    ensures { result ≡ (if black_at page.now x y then 1 else 0) }
+/// The bit of a dot.
+fn bit_of(dot: bool) -> u8
+    ensures { result ≡ (if dot then 1 else 0) }
 {
-    u8::from(page.get(x, y))
+    u8::from(dot)
 }
 
-/// Eight dots of a line of a page, the first of which is dot `x`, as a byte: the leftmost is the most significant bit.
-fn byte_at(page: &Canvas, x: u32, y: u32) -> u8
-    requires { x + 8 < 2 ^ 32 }
-    ensures { result ≡ byte_of_dots (λ j. black_at page.now (x + j) y) }
+/// Eight dots of a line of a page as a byte: the leftmost is the most significant bit.
+fn byte_at(page: &Canvas, index: u32, y: u32) -> u8
+    ensures { result ≡ byte_of_dots (λ j. black_at page.now (8 * index + j) y) }
 {
-    128 * dot_at(page, x, y)
-        + 64 * dot_at(page, x + 1, y)
-        + 32 * dot_at(page, x + 2, y)
-        + 16 * dot_at(page, x + 3, y)
-        + 8 * dot_at(page, x + 4, y)
-        + 4 * dot_at(page, x + 5, y)
-        + 2 * dot_at(page, x + 6, y)
-        + dot_at(page, x + 7, y)
+    let dots = page.dots(index, y);
+    128 * bit_of(dots[0])
+        + 64 * bit_of(dots[1])
+        + 32 * bit_of(dots[2])
+        + 16 * bit_of(dots[3])
+        + 8 * bit_of(dots[4])
+        + 4 * bit_of(dots[5])
+        + 2 * bit_of(dots[6])
+        + bit_of(dots[7])
 }
 
-/// The row of a region in a line of a page, gathered dot by dot.
-fn row_gathered(alloc: Global, page: &Canvas, region: Region, y: u32) -> Result<Vec<u8>, AllocError>
+/// Gathers the row of a region in a line of a page, by eight dots.
+fn gather_row(page: &Canvas, region: Region, y: u32, row: &mut Vec<u8>) -> Result<(), AllocError>
     requires lies { LiesOn page.now region }
     requires narrow { region.right ≤ WIDEST_ROW }
-    ensures { IfOk result (λ row. row.items ≡ row_in region (line_bytes page.now y)) }
+    ensures { OnOk result (row.new.items ≡ row_in region (line_bytes page.now y)) }
 {
-    let mut row = Vec::with_capacity(alloc, region.right - region.left)?;
+    row.clear();
     for index in region.left..region.right {
-        row.push(byte_at(page, 8 * index as u32, y))?;
+        row.push(byte_at(page, index as u32, y))?;
     }
-    Ok(row)
+    Ok(())
 }
 
-/// Appends the rows of a region of a page, gathered dot by dot.
+/// Appends the rows of a region of a page, gathered by eight dots.
 fn append_gathered(
     alloc: Global,
     page: &Canvas,
@@ -92,10 +92,12 @@ fn append_gathered(
     ensures { OnOk result (text.new.items
         ≡ text.old.items ++ compact_text (array (items_of (rows_of page.now region)))) }
 {
+    let mut row = Vec::new(alloc);
     text.push(b'[')?;
     for line in region.top..region.bottom {
         append_comma(region.top < line, text)?;
-        append_hexadecimal(&row_gathered(alloc, page, region, line)?, text)?;
+        gather_row(page, region, line, &mut row)?;
+        append_hexadecimal(&row, text)?;
     }
     text.push(b']')?;
     Ok(())

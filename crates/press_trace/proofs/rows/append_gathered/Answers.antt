@@ -15,4 +15,4 @@ loop-line-preserved c =
     rows_more (row_data c.args.page.now region) region.top c.loop-line.line region.bottom c.loop-line.text.items _ _ behind below
     (both c.loop-line.text.items _ _ _ _ c.in_ok-append_comma.ensures
     (c.in_ok-append_hexadecimal.ensures
-    ∙ ap (λ row. c.append_comma.new.text.items ++ compact_text (string (encode_upper row))) (c.deref.ensures.value ∙ c.in_ok-row_gathered.ensures))) c.loop-line.invariant
+    ∙ ap (λ row. c.append_comma.new.text.items ++ compact_text (string (encode_upper row))) (c.deref.ensures.value ∙ c.in_ok-gather_row.ensures))) c.loop-line.invariant

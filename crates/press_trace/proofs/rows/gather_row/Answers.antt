@@ -3,7 +3,7 @@ use Rattle.std.specs.List.{range_with_len}
 use Rattle.press_bits.specs.Page.{black_at}
 use Rattle.press_pbm.specs.Spelling.{byte_of_dots}
 use Rattle.press_trace.proofs.PageLemmas.{row_more, row_of_dots}
-use Rattle.press_trace.proofs.rows.row_gathered.Goals as goal
+use Rattle.press_trace.proofs.rows.gather_row.Goals as goal
 
 pub loop-index-preserved : goal.loop-index-preserved
 loop-index-preserved c =
