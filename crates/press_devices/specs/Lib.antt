@@ -1,6 +1,7 @@
--- Devices: reads, writes, and when they fail.
+-- Devices: reads, writes, when they fail, and what is told where they do.
 pub mod Failing
 pub mod Faults
 pub mod Reading
+pub mod Telling
 pub mod Watching
 pub mod Writing

@@ -1,5 +1,5 @@
 //! Bytes that are written whole (this profile).
-ghost use Rattle.std.specs.Prelude.{◌≡◌, ◌<◌, ◌⊎◌, true, false, length, IfOk, OnOk, OnErr};
+ghost use Rattle.std.specs.Prelude.{◌≡◌, ◌<◌, ◌≤◌, ◌⊎◌, true, false, length, take, IfOk, IfSome, OnOk, OnErr};
 ghost use Rattle.std.specs.Io.{WritesAtMost};
 ghost use Rattle.std.specs.Io.KnownBytes.{Keeps, WriteAppends};
 ghost use Rattle.std.specs.List.{flat_map};
@@ -10,6 +10,9 @@ use std::io::{self, ErrorKind, Write};
 
 /// The most writes of one list of bytes that may be interrupted.
 const MOST_INTERRUPTED: u32 = u32::MAX;
+
+/// How many bytes pieces may have that are written at once.
+const ROOM: usize = 128;
 
 /// What is written to: a writer of std, or any other.
 pub trait WriteDevice {
@@ -92,7 +95,24 @@ pub fn write_whole<W: WriteDevice>(output: &mut W, bytes: &[u8]) -> io::Result<(
     Ok(())
 }
 
-/// Writes pieces one after the other, each as [`write_whole`] does.
+/// Puts pieces one after the other into a room, and answers how many bytes they are, if it has so many.
+fn joined(pieces: &[&[u8]], room: &mut [u8]) -> Option<usize>
+    ensures bytes { IfSome result (λ count. take count room.new
+        ≡ flat_map (λ piece. piece.now) pieces.now) }
+    ensures within { IfSome result (λ count. count ≤ length room.new) }
+{
+    let mut count = 0;
+    for piece in pieces {
+        if room.len() - count < piece.len() {
+            return None;
+        }
+        room[count..count + piece.len()].copy_from_slice(piece);
+        count += piece.len();
+    }
+    Some(count)
+}
+
+/// Writes pieces one after the other: at once where they are few bytes, and else each as [`write_whole`] does.
 ///
 /// # Errors
 ///
@@ -103,6 +123,10 @@ pub fn write_pieces<W: WriteDevice>(output: &mut W, pieces: &[&[u8]]) -> io::Res
     ensures stays { W.failed output.old ≡ true → W.failed output.new ≡ true }
     ensures cause { OnErr result (W.failed output.new ≡ true) }
 {
+    let mut room = [0; ROOM];
+    if let Some(count) = joined(pieces, &mut room) {
+        return write_whole(output, &room[..count]);
+    }
     for piece in pieces {
         write_whole(output, piece)?;
     }

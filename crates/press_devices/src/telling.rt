@@ -1,7 +1,7 @@
 //! What the program tells (this profile).
 
 ghost use Rattle.std.specs.Prelude.{◌≡◌};
-ghost use Rattle.press_telling.specs.Telling.{Tells, as_line};
+ghost use Rattle.press_devices.specs.Telling.{Tells, as_line};
 
 use std::fmt::{self, Display};
 use std::io::Write;

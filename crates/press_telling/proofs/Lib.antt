@@ -1,1 +1,0 @@
--- No lemmas: the check finds the proofs of this crate.

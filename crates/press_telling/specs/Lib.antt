@@ -1,2 +1,0 @@
--- What is told where faults are told.
-pub mod Telling
