@@ -3,7 +3,7 @@
 
 use press_devices::Watched;
 use press_disk::{FileOutputs, SystemFiles};
-use press_main::{NamedFiles, run_words};
+use press_main::{Devices, NamedFiles, run_words};
 use press_sink::NamedOutputs;
 use press_units::NO_MEMORY;
 use std::env;
@@ -53,17 +53,8 @@ fn run(rt: &HostRuntime, words: &[String]) -> io::Result<u8> {
     let out = Watched::new(BufWriter::with_capacity(rt.alloc(), BUFFER, io::writer(rt))?);
     let mut outputs = FileOutputs::new(rt.alloc(), SystemFiles::new(rt))?;
     outputs.spare(STANDARD_INPUT)?;
-    let mut inputs = NamedFiles::new(rt.alloc(), rt);
-    let input = Watched::new(rt.stdin());
-    let mut err = rt.stderr();
-    let performed = run_words(
-        rt.alloc(),
-        &mut inputs,
-        outputs,
-        words,
-        input,
-        out,
-        &mut err,
-    );
-    Ok(performed.status)
+    let inputs = NamedFiles::new(rt.alloc(), rt);
+    let mut input = Watched::new(rt.stdin());
+    let mut devices = Devices::new(inputs, outputs, out, rt.stderr());
+    Ok(run_words(rt.alloc(), words, &mut input, &mut devices))
 }

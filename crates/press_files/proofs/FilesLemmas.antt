@@ -1,8 +1,8 @@
 -- What is made of sheets that are printed to files.
-use Rattle.std.proofs.Common.{◌≡◌, ◌≢◌, ◌∙◌, ◌+◌, ℕ, zero, suc, List, [], ◌∷◌, ◌++◌}
+use Rattle.std.proofs.Common.{◌≡◌, ◌⊎◌, ◌≢◌, ◌∙◌, ◌+◌, ℕ, zero, suc, List, [], ◌∷◌, ◌++◌}
 use Rattle.std.proofs.Common.{Option, Some, None, Err, IfSome, refl, sym, ap, subst, inl, inr, arith}
 use Rattle.press_files.specs.Causes.{Failures, failures}
-use Rattle.press_files.specs.Change.{around, change}
+use Rattle.press_files.specs.Change.{Changes, around, change}
 use Rattle.std.proofs.lemmas.List.{append_assoc, append-nil, map-append}
 use Rattle.std.proofs.lemmas.Option.{same_Some}
 use Rattle.std.specs.Coded.{Coded, Coded-set, code_by, coded×, coded_list, coded_option, coded_ℕ}
@@ -27,8 +27,8 @@ use Rattle.press_stream.specs.Answers.{ending_by}
 use Rattle.press_stream.specs.Meaning.{meaning_of, with_exit}
 use Rattle.press_sink.specs.SinkLog.{SheetLog, SinkLog, logs, under}
 use Rattle.press_stream.specs.Printed.{Printed}
-use Rattle.press_files.specs.Files.{PrintsTo, PrintsBy, MakesFiles, files_told, replies_written, DoesNothing}
-use Rattle.press_files.specs.Files.{MakesSheets, ComesBehind, PrintsNoFiles, sheets_outputs, number_behind}
+use Rattle.press_files.specs.Files.{PrintsTo, PrintsBy, MakesFiles, files_told, replies_written, BeginsNothing}
+use Rattle.press_files.specs.Files.{MakesSheets, ComesBehind, sheets_outputs, number_behind}
 use Rattle.press_files.specs.Folders.{KeepsFolder, folder}
 use Rattle.press_files.specs.Printing.{status_of_fault}
 use Rattle.press_files.proofs.ListingLemmas.{read_all}
@@ -218,13 +218,11 @@ makes_files template front parts status fails said says (Some bytes) left old ne
         }
 
 -- why nothing was begun of a text
-pub prints-no-files : (error : TemplateError) (template : List ℕ) (status : ℕ) (fails : Failures)
-    (said says had left old new : Option (List ℕ)) (before after : Option (List MadeOutput))
-    → (error ≡ BadTemplate → IsNoTemplate template)
-    → DoesNothing (template_number error) status (around fails said says had left old new before after)
-    → PrintsNoFiles template status (around fails said says had left old new before after)
-prints-no-files BadTemplate template status fails said says had left old new before after bad nothing = inl (bad refl, nothing)
-prints-no-files template_fault.NoMemory template status fails said says had left old new before after bad nothing = inr nothing
+pub prints-no-files : (error : TemplateError) (template : List ℕ) (status : ℕ) (changes : Changes) → (error ≡ BadTemplate → IsNoTemplate template)
+    → BeginsNothing (template_number error) status changes
+    → (IsNoTemplate template × BeginsNothing (template_number BadTemplate) status changes) ⊎ BeginsNothing None status changes
+prints-no-files BadTemplate template status changes bad nothing = inl (bad refl, nothing)
+prints-no-files template_fault.NoMemory template status changes bad nothing = inr nothing
 
 -- where a stream ended at a sheet, its sink had one fault more
 sheet-fault : (front : List ℕ) (had left : Option (List ℕ)) (error : Option JobError) (machine : Option Machine) (before after : SinkLog)
@@ -261,8 +259,8 @@ prints-by parts front status Input Output Outputs Other said says had left old n
         reads = all.reads;
         replies = all.replies;
       };
-      makes = makes;
       outputs = λ is.
           let faulted = sheet-fault front had left all.error all.machine _ _ all.printed is in
           cause (λ zero. omega (arith, zero, faulted));
+      makes = makes;
     }

@@ -22,6 +22,10 @@ writing fails = failures fails.input ⊥ fails.output ⊥
 abbrev pub making : Failures → Failures
 making fails = failures fails.input ⊥ ⊥ fails.outputs
 
+-- the same of a call that reads, and writes what it makes to the writer of answers
+abbrev pub making_out : Failures → Failures
+making_out fails = failures fails.input ⊥ ⊥ fails.output
+
 -- Why an input was not read to its end: it is not read on; or memory ran out.
 abbrev pub InputCause : (Fails : Type 0) → InputError → Type 0
 InputCause Fails ReadFault = Fails

@@ -19,9 +19,10 @@ use Rattle.press_units.specs.Faults.{fault_text}
 use Rattle.press_sink.specs.Faults.{template_number}
 use Rattle.press_sink.specs.declared.fault.TemplateError.TheVariants.{BadTemplate}
 use Rattle.press_files.specs.Causes.{Failures}
-use Rattle.press_files.specs.Change.{Change, change, Edge}
+use Rattle.press_files.specs.Change.{Change, Changes, change}
+use Rattle.press_files.specs.Edge.{Edge, between}
 use Rattle.press_files.specs.Printing.{status_of_fault, TellsFault}
-use Rattle.press_telling.specs.Telling.{Tells, as_line}
+use Rattle.press_devices.specs.Telling.{Tells, as_line}
 
 -- deliveries are stored as the pairs of their tags and sheets
 abbrev pub delivery_code : Coded Delivery
@@ -35,10 +36,11 @@ delivery_code =
 abbrev pub replies_written : Option (List ℕ) → ℕ → ReplyLog
 replies_written contents faults = record { replied = contents; faults = faults }
 
--- A stream of these bytes and of what a reader had behind them was printed to a sheet sink under tag 0, and its replies were written: so much of it went out, by the error that there was or
--- was not, and the status is 0 exactly where there was none. Then the writer took all the replies, and nothing else. The error is what was
--- told. 304 comes only where the reader is not read on, and 302 where the writer failed.
-pub record PrintsTo (fails : Failures) (status : ℕ) (front : List ℕ) (told read : Change (Option (List ℕ))) (sheets : Change SheetLog) (written : Change (Option (List ℕ))) : Type 0 where
+-- A stream of these bytes and of what a reader had behind them was printed to a sheet sink under tag 0, and its replies were written: so much
+-- of it went out, by the error that there was or was not, and the status is 0 exactly where there was none. Then the writer took all the
+-- replies, and nothing else. The error is what was told. 304 comes only where the reader is not read on, and 302 where the writer failed.
+pub record PrintsTo (fails : Failures) (status : ℕ) (front : List ℕ) (told read : Change (Option (List ℕ)))
+    (sheets : Change SheetLog) (written : Change (Option (List ℕ))) : Type 0 where
   pub error : Option JobError
   pub machine : Option Machine
   pub faults : ℕ
@@ -76,20 +78,14 @@ pub record MakesSheets (parts : NameParts) (sheets : List PrintedSheet) (faults 
 abbrev pub files_told : List Delivery → ℕ → SheetLog
 files_told deliveries faults = record { delivered = Some deliveries; faults = faults }
 
--- A stream was printed to files by a template of these parts: what went out of it is what the sink took, and that was made. 301 comes only
--- where outputs failed.
-pub record PrintsBy (parts : NameParts) (front : List ℕ) (status : ℕ) (edge : Edge) : Type 0 where
+-- Such a stream was printed to a sink of files by a template of these parts, which took nothing before. What it took was made, and where it had
+-- a fault perhaps a front of one sheet more. 301 comes only where outputs failed.
+pub record PrintsBy (parts : NameParts) (front : List ℕ) (status : ℕ) (changes : Changes) : Type 0 where
   pub deliveries : List Delivery
   pub faults : ℕ
-  pub prints : PrintsTo edge.fails status front edge.told edge.read (change (files_told [] 0) (files_told deliveries faults)) edge.written
-  pub makes : ∥ MakesSheets parts (sheets_in deliveries) faults edge.made.before edge.made.after ∥₁
-  pub outputs : prints.error ≡ Some SinkFault → edge.fails.outputs
-
--- The same by a text, which is a template.
-pub record PrintsFiles (template front : List ℕ) (status : ℕ) (edge : Edge) : Type 0 where
-  pub parts : NameParts
-  pub is_template : IsTemplate template parts
-  pub by_parts : PrintsBy parts front status edge
+  pub prints : PrintsTo changes.fails status front changes.told changes.read (change (files_told [] 0) (files_told deliveries faults)) changes.written
+  pub outputs : prints.error ≡ Some SinkFault → changes.fails.outputs
+  pub makes : ∥ MakesSheets parts (sheets_in deliveries) faults changes.made.before changes.made.after ∥₁
 
 -- The files of a stream of these bytes were made by a template, and nothing else: the sides of the sheets that its meaning delivers,
 -- in order, each under the name with its number, and each the P4 file of its page.
@@ -100,15 +96,20 @@ pub record MakesFiles (template : List ℕ) (bytes : List ℕ) (before after : O
   pub closed : Closed bytes commands
   pub made : after ≡ with_outputs (sheets_outputs parts 1 (sheets_of (meaning_of (with_exit commands)).outputs)) before
 
--- Nothing was read, nothing was written or made, the status is 1, and this fault was told, or that memory ran out.
-pub record DoesNothing (number : Option ℕ) (status : ℕ) (edge : Edge) : Type 0 where
+-- Nothing was read, nothing was written or made, the status is 1, and this fault was told, or that memory ran out; and the same of edges.
+pub record BeginsNothing (number : Option ℕ) (status : ℕ) (changes : Changes) : Type 0 where
   pub answers : status ≡ 1
-  pub told : Tells edge.told.before edge.told.after (as_line (Some (fault_text number)))
-  pub unread : edge.read.after ≡ edge.read.before
-  pub unwritten : edge.written.after ≡ edge.written.before
-  pub unmade : edge.made.after ≡ edge.made.before
+  pub told : Tells changes.told.before changes.told.after (as_line (Some (fault_text number)))
+  pub unread : changes.read.after ≡ changes.read.before
+  pub unwritten : changes.written.after ≡ changes.written.before
+  pub unmade : changes.made.after ≡ changes.made.before
 
--- Nothing was begun of a text: it is no template, or memory ran out.
-abbrev pub PrintsNoFiles : (template : List ℕ) (status : ℕ) (edge : Edge) → Type 0
-PrintsNoFiles template status edge =
-    (IsNoTemplate template × DoesNothing (template_number BadTemplate) status edge) ⊎ DoesNothing None status edge
+abbrev pub DoesNothing : (number : Option ℕ) (status : ℕ) (before after : Edge) → Type 0
+DoesNothing number status before after = BeginsNothing number status (between before after)
+
+-- A stream was printed to files by a text that is a template; or nothing was begun of it: the text is none, or memory ran out.
+abbrev pub PrintsFiles : (front template : List ℕ) (status : ℕ) (changes : Changes) → Type 0
+PrintsFiles front template status changes =
+    ((parts : NameParts) × IsTemplate template parts × PrintsBy parts front status changes)
+    ⊎ (IsNoTemplate template × BeginsNothing (template_number BadTemplate) status changes)
+    ⊎ BeginsNothing None status changes

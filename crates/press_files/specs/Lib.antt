@@ -1,6 +1,8 @@
--- Streams that are printed or listed, and the inputs and outputs of the program.
+-- Streams that are printed or listed, jobs of tickets, talks, and the inputs and outputs of the program.
 pub mod Causes
 pub mod Change
+pub mod Edge
+pub mod Ends
 pub mod EntryKept
 pub mod EntryListing
 pub mod EntryPages
@@ -10,6 +12,10 @@ pub mod Faults
 pub mod Files
 pub mod Folders
 pub mod Inputs
+pub mod JobCauses
+pub mod JobFaults
+pub mod Jobs
+pub mod LineReading
 pub mod Listed
 pub mod Listing
 pub mod Measured
@@ -18,3 +24,4 @@ pub mod NamedInputs
 pub mod Numbering
 pub mod PagesKept
 pub mod Printing
+pub mod Talking

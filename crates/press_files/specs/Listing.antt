@@ -17,10 +17,9 @@ use Rattle.press_stream.specs.State.{JobState}
 use Rattle.press_stream.specs.Answers.{fault_of, ending_by}
 use Rattle.press_stream.specs.Meaning.{meaning_of, with_exit}
 use Rattle.press_stream.specs.Printed.{Printed}
-use Rattle.press_files.specs.Causes.{Failures}
-use Rattle.press_files.specs.Change.{Change}
+use Rattle.press_files.specs.Change.{Changes}
 use Rattle.press_files.specs.Printing.{machine_of, status_of_fault, TellsFault}
-use Rattle.press_telling.specs.Telling.{output_text, Tells, as_line}
+use Rattle.press_devices.specs.Telling.{output_text, Tells, as_line}
 use Rattle.press_files.specs.declared.measures.Measures.{Measures}
 use Rattle.press_files.specs.Measured.{measures_by}
 
@@ -64,13 +63,6 @@ listing_of sums outputs = lines_from sums 1 (sheets_of outputs) ++ reply_bytes_o
 abbrev pub ListsBy : (sums : Bool) → List ℕ → Option (List ℕ) → Option (List ℕ) → Type 0
 ListsBy sums bytes old new = (commands : List Token) × Closed bytes commands × Appends old new (listing_of sums (meaning_of (with_exit commands)).outputs)
 
--- the same of a listing without sums, and of one with them
-abbrev pub Lists : List ℕ → Option (List ℕ) → Option (List ℕ) → Type 0
-Lists = ListsBy false
-
-abbrev pub ListsSums : List ℕ → Option (List ℕ) → Option (List ℕ) → Type 0
-ListsSums = ListsBy true
-
 -- What was written of a listing that is these bytes: all of them, or a prefix where a write failed.
 abbrev pub HasListed : (written : Bool) (old new : Option (List ℕ)) (bytes : List ℕ) → Type 0
 HasListed true old new bytes = Appends old new bytes
@@ -100,20 +92,13 @@ abbrev pub TellsListing : Option JobError → (written : Bool) → (said says : 
 TellsListing error true said says = TellsFault error said says
 TellsListing error false said says = (between : Option (List ℕ)) × TellsFault error said between × Tells between says (as_line (Some output_text))
 
--- The same, with its status: 0 exactly where the stream had no fault and its listing was written; and what was told. 304 comes only where
--- the reader is not read on, and the listing is cut only where the writer failed.
-pub record PrintsListingBy (sums : Bool) (fails : Failures) (status : ℕ) (front : List ℕ) (told read output : Change (Option (List ℕ))) : Type 0 where
+-- A stream was printed and listed, with sums or without, with its status: 0 exactly where the stream had no fault and its listing was
+-- written; and what was told. 304 comes only where the reader is not read on, and the listing is cut only where the writer failed.
+pub record PrintsListing (sums : Bool) (front : List ℕ) (status : ℕ) (changes : Changes) : Type 0 where
   pub printed : Result JobState JobError
   pub written : Bool
-  pub stream : ListsPrinted sums front printed written read.before read.after output.before output.after
+  pub stream : ListsPrinted sums front printed written changes.read.before changes.read.after changes.written.before changes.written.after
   pub answers : status ≡ status_of_listing (fault_of printed) written
-  pub tells : TellsListing (fault_of printed) written told.before told.after
-  pub reads : fault_of printed ≡ Some ReadFault → fails.input
-  pub writes : written ≡ false → fails.output
-
--- the same of a listing without sums, and of one with them
-abbrev pub PrintsListing : Failures → ℕ → List ℕ → (told read output : Change (Option (List ℕ))) → Type 0
-PrintsListing = PrintsListingBy false
-
-abbrev pub PrintsSums : Failures → ℕ → List ℕ → (told read output : Change (Option (List ℕ))) → Type 0
-PrintsSums = PrintsListingBy true
+  pub tells : TellsListing (fault_of printed) written changes.told.before changes.told.after
+  pub reads : fault_of printed ≡ Some ReadFault → changes.fails.input
+  pub writes : written ≡ false → changes.fails.output

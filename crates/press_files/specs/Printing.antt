@@ -5,7 +5,7 @@ use Rattle.press_engine.specs.declared.machine.Machine.{Machine}
 use Rattle.press_stream.specs.declared.fault.JobError.{JobError}
 use Rattle.press_stream.specs.Faults.{fault_number}
 use Rattle.press_stream.specs.State.{JobState}
-use Rattle.press_telling.specs.Telling.{Tells, as_line}
+use Rattle.press_devices.specs.Telling.{Tells, as_line}
 
 -- the machine of the job that was handed back
 abbrev pub machine_of : Result JobState JobError → Option Machine

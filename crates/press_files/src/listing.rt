@@ -1,124 +1,140 @@
 //! The listings of streams and of presses.
-ghost use Rattle.std.specs.Prelude.{◌≡◌, ◌≤◌, ◌++◌, true, false, IfSome, OnErr, OnOk, IsErrOf};
-ghost use Rattle.press_files.specs.Change.{change};
+ghost use Rattle.std.specs.Prelude.{◌≡◌, ◌≤◌, ◌++◌, true, false, None, IfSome, OnErr, OnOk, IsErrOf};
+ghost use Rattle.press_files.specs.Causes.{failures};
+ghost use Rattle.press_files.specs.Change.{around};
+ghost use Rattle.press_files.specs.Ends.{ListsItAll, PrintingList};
 ghost use Rattle.press_devices.specs.Reading.{ReadFails};
 ghost use Rattle.press_devices.specs.Writing.{Writes};
-ghost use Rattle.press_files.specs.Causes.{failures};
-ghost use Rattle.press_files.specs.Listing.{line_end, measured_line, measures_text, sheet_lines, Lists, ListsBy, ListsSums, ListsPrinted, PrintsListing, PrintsListingBy, PrintsSums};
+ghost use Rattle.press_files.specs.Listing.{line_end, measured_line, measures_text, sheet_lines, ListsBy, ListsPrinted, PrintsListing};
 ghost use Rattle.press_files.specs.EntryListing.{entry_mark, entry_measured_line, entry_sheet_lines, entry_lines, entry_listing};
 ghost use Rattle.press_files.specs.EntryKept.{entry_deliveries_of};
 ghost use Rattle.press_files.specs.EntrySheets.{kept, lists_sums};
 
+use crate::around::Around;
+use crate::devices::{Devices, Platform};
 use crate::digest::digits_of;
 use crate::entry_sheets::{EntrySheet, EntrySheets};
 use crate::held_replies::HeldReplies;
+use crate::lent::Lent;
 use crate::listed_sheet::ListedSheet;
 use crate::listing_sink::{ListingSink, Unlisted};
 use crate::measures::Measures;
 use crate::stream::{print_behind, told_status};
 use itoa::Buffer;
-use press_devices::{ReadDevice, WriteDevice, write_pieces};
+use press_devices::{NO_OUTPUT, ReadDevice, Teller, WriteDevice, report, write_pieces};
+use press_sink::NamedOutputs;
 use press_stream::{Job, JobError};
-use press_telling::{NO_OUTPUT, Teller, report};
 use std::alloc::Global;
 use std::io;
 use std::marker::Brand;
 
-/// How a listing ended: the status, and its writer, which is handed back.
-#[derive(Drop)]
-pub struct Answered<W> {
-    pub status: u8,
-    pub out: W,
-}
-
 /// Prints the stream of these bytes and of what a reader has behind them, and lists its sheets: a line for each side, and then the
 /// replies. In the line `sheet 1 front 2550x3300 black 6` stand the number of the sheet from 1, `front` or `back`, width and height in
 /// dots, and how many dots are black. A line is written when its sheet comes, and the replies are held until the end.
-/// After a fault the sheets before it are listed, and the fault stands on `err`. The status is 0, or 1 after a fault.
-pub fn print_list<R: ReadDevice, W: WriteDevice + Drop, E: Teller>(
+/// After a fault the sheets before it are listed, and the fault stands on standard error. The answer is the status: 0, or 1 after a fault.
+pub fn print_list<R: ReadDevice, P: Platform>(
     alloc: Global,
     front: &[u8],
     reader: &mut R,
-    out: W,
-    err: &mut E,
-) -> Answered<W>
-    ensures status { result.status ≤ 1 }
-    ensures lists { result.status ≡ 0 → IfSome (R.remaining reader.old) (λ bytes.
-        Lists (front.now ++ bytes) (W.contents out) (W.contents result.out)) }
-    ensures flushed { result.status ≡ 0 → W.waiting result.out ≡ false }
-    ensures printed { PrintsListing
-        (failures (ReadFails (R.failed reader.new) (R.reads reader.new))
-        ⊥ (W.failed result.out ≡ true) ⊥) result.status front.now
-        (change (E.said err.old) (E.said err.new))
-        (change (R.remaining reader.old) (R.remaining reader.new))
-        (change (W.contents out) (W.contents result.out)) }
+    devices: &mut Devices<P>,
+) -> u8
+    ensures status { result ≤ 1 }
+    ensures lists { ⟦<Devices<P> as Around<R>>⟧.holds (ListsItAll false front.now)
+        result reader.old reader.new devices.old devices.new }
+    ensures flushed { result ≡ 0 → P.Out.waiting devices.new.out ≡ false }
+    ensures inputs { devices.new.inputs ≡ devices.old.inputs }
+    ensures outputs { devices.new.outputs ≡ devices.old.outputs }
+    ensures printed { ⟦<Devices<P> as Around<R>>⟧.holds (PrintingList false front.now)
+        result reader.old reader.new devices.old devices.new }
 {
-    list_by(alloc, front, reader, out, err, false)
+    let Devices { out, err, .. } = devices;
+    let (_, status) = list_by::<R, P::Out, P::Err, Brand>(alloc, front, false, reader, out, err);
+    status
 }
 
 /// Does the same, with the SHA-256 of each side behind its line: of the P4 file that `print` makes of it, as in
 /// `sheet 1 front 2550x3300 black 6 sha256 ..`.
-pub fn print_sums<R: ReadDevice, W: WriteDevice + Drop, E: Teller>(
+pub fn print_sums<R: ReadDevice, P: Platform>(
     alloc: Global,
     front: &[u8],
     reader: &mut R,
-    out: W,
-    err: &mut E,
-) -> Answered<W>
-    ensures status { result.status ≤ 1 }
-    ensures lists { result.status ≡ 0 → IfSome (R.remaining reader.old) (λ bytes.
-        ListsSums (front.now ++ bytes) (W.contents out) (W.contents result.out)) }
-    ensures flushed { result.status ≡ 0 → W.waiting result.out ≡ false }
-    ensures printed { PrintsSums
-        (failures (ReadFails (R.failed reader.new) (R.reads reader.new))
-        ⊥ (W.failed result.out ≡ true) ⊥) result.status front.now
-        (change (E.said err.old) (E.said err.new))
-        (change (R.remaining reader.old) (R.remaining reader.new))
-        (change (W.contents out) (W.contents result.out)) }
+    devices: &mut Devices<P>,
+) -> u8
+    ensures status { result ≤ 1 }
+    ensures lists { ⟦<Devices<P> as Around<R>>⟧.holds (ListsItAll true front.now)
+        result reader.old reader.new devices.old devices.new }
+    ensures flushed { result ≡ 0 → P.Out.waiting devices.new.out ≡ false }
+    ensures inputs { devices.new.inputs ≡ devices.old.inputs }
+    ensures outputs { devices.new.outputs ≡ devices.old.outputs }
+    ensures printed { ⟦<Devices<P> as Around<R>>⟧.holds (PrintingList true front.now)
+        result reader.old reader.new devices.old devices.new }
 {
-    list_by(alloc, front, reader, out, err, true)
+    let Devices { out, err, .. } = devices;
+    let (_, status) = list_by::<R, P::Out, P::Err, Brand>(alloc, front, true, reader, out, err);
+    status
 }
 
-/// Prints a stream and lists its sheets, with sums or without.
-fn list_by<R: ReadDevice, W: WriteDevice + Drop, E: Teller>(
+/// Prints a stream and lists its sheets, with sums or without, to a writer that is lent, and goes back, with the status. The call's proof says
+/// which it is.
+fn list_by<'r, R: ReadDevice, W: WriteDevice, E: Teller, D: Unlisted>(
     alloc: Global,
     front: &[u8],
-    reader: &mut R,
-    out: W,
-    err: &mut E,
     sums: bool,
-) -> Answered<W>
-    ensures status { result.status ≤ 1 }
-    ensures lists { result.status ≡ 0 → IfSome (R.remaining reader.old) (λ bytes.
-        ListsBy sums (front.now ++ bytes) (W.contents out) (W.contents result.out)) }
-    ensures flushed { result.status ≡ 0 → W.waiting result.out ≡ false }
-    ensures printed { PrintsListingBy sums
-        (failures (ReadFails (R.failed reader.new) (R.reads reader.new))
-        ⊥ (W.failed result.out ≡ true) ⊥) result.status front.now
-        (change (E.said err.old) (E.said err.new))
-        (change (R.remaining reader.old) (R.remaining reader.new))
-        (change (W.contents out) (W.contents result.out)) }
+    reader: &mut R,
+    out: &'r mut W,
+    err: &mut E,
+) -> (&'r mut W, u8)
+    requires name { out.ghost_name ≡ D.name }
+    requires begun { W.contents out.old ≡ D.begun }
+    requires sums { sums ≡ D.sums }
+    ensures same { result.0.ghost_name ≡ out.entry.ghost_name }
+    ensures status { result.1 ≤ 1 }
+    ensures lists { result.1 ≡ 0 → IfSome (R.remaining reader.old) (λ bytes.
+        ListsBy D.sums (front.now ++ bytes) D.begun (W.contents result.0.now)) }
+    ensures flushed { result.1 ≡ 0 → W.waiting result.0.now ≡ false }
+    ensures printed { PrintsListing D.sums front.now result.1
+        (around (failures (ReadFails (R.failed reader.new) (R.reads reader.new)) ⊥
+        (W.failed result.0.now ≡ true) ⊥) (E.said err.old) (E.said err.new)
+        (R.remaining reader.old) (R.remaining reader.new)
+        D.begun (W.contents result.0.now) None None) }
 {
-    let stream = list_stream::<R, W, Brand>(alloc, front, reader, out, sums);
+    let (out, stream) = list_lent::<R, W, D>(alloc, front, reader, out, sums);
     let status = told_status(&stream.printed, err);
     if stream.written {
-        return Answered {
-            status,
-            out: stream.out,
-        };
+        return (out, status);
     }
-    Answered {
-        status: report(&NO_OUTPUT, err),
-        out: stream.out,
-    }
+    (out, report(&NO_OUTPUT, err))
 }
 
-/// A stream that was printed and listed: how it ended, whether its listing was written, and the writer.
+/// A stream that was printed and listed: how it ended, and whether its listing was written.
 #[derive(Drop)]
-struct ListedStream<W> {
+struct ListedStream {
     printed: Result<Job, JobError>,
     written: bool,
-    out: W,
+}
+
+/// Prints such a stream, and lists what goes out of it to a writer that is lent, and goes back. The call's proof says what it held.
+fn list_lent<'r, R: ReadDevice, W: WriteDevice, D: Unlisted>(
+    alloc: Global,
+    front: &[u8],
+    reader: &mut R,
+    out: &'r mut W,
+    sums: bool,
+) -> (&'r mut W, ListedStream)
+    requires name { out.ghost_name ≡ D.name }
+    requires begun { W.contents out.old ≡ D.begun }
+    requires sums { sums ≡ D.sums }
+    ensures same { result.0.ghost_name ≡ out.entry.ghost_name }
+    ensures lists { ListsPrinted D.sums front.now result.1.printed result.1.written
+        (R.remaining reader.old) (R.remaining reader.new) D.begun (W.contents result.0.now) }
+    ensures flushed { result.1.written ≡ true → W.waiting result.0.now ≡ false }
+    ensures reads { IsErrOf result.1.printed JobError.ReadFault
+        → ReadFails (R.failed reader.new) (R.reads reader.new) }
+    ensures writes { result.1.written ≡ false → W.failed result.0.now ≡ true }
+{
+    let lent: Lent<'r, W, D> = Lent::new(out);
+    let (lent, stream) = list_stream::<R, Lent<'r, W, D>, D>(alloc, front, reader, lent, sums);
+    (lent.into_inner(), stream)
 }
 
 /// Prints such a stream, and lists what goes out of it, whatever fault it has. The call's proof says what the writer held.
@@ -128,25 +144,25 @@ fn list_stream<R: ReadDevice, W: WriteDevice + Drop, D: Unlisted>(
     reader: &mut R,
     out: W,
     sums: bool,
-) -> ListedStream<W>
+) -> (W, ListedStream)
     requires begun { W.contents out ≡ D.begun }
     requires sums { sums ≡ D.sums }
-    ensures lists { ListsPrinted D.sums front.now result.printed result.written (R.remaining reader.old)
-        (R.remaining reader.new) D.begun (W.contents result.out) }
-    ensures flushed { result.written ≡ true → W.waiting result.out ≡ false }
-    ensures reads { IsErrOf result.printed JobError.ReadFault
+    ensures lists { ListsPrinted D.sums front.now result.1.printed result.1.written
+        (R.remaining reader.old) (R.remaining reader.new) D.begun (W.contents result.0) }
+    ensures flushed { result.1.written ≡ true → W.waiting result.0 ≡ false }
+    ensures reads { IsErrOf result.1.printed JobError.ReadFault
         → ReadFails (R.failed reader.new) (R.reads reader.new) }
-    ensures writes { result.written ≡ false → W.failed result.out ≡ true }
+    ensures writes { result.1.written ≡ false → W.failed result.0 ≡ true }
 {
     let mut sheets: ListingSink<W, D> = ListingSink::new(out, sums);
     let mut replies = HeldReplies::new(alloc);
     let printed = print_behind(alloc, front, reader, 0, &mut sheets, &mut replies);
     let ended = sheets.finish(replies.bytes());
-    ListedStream {
+    let stream = ListedStream {
         printed,
         written: ended.written,
-        out: ended.out,
-    }
+    };
+    (ended.out, stream)
 }
 
 /// Lists the sides of one sheet.

@@ -5,6 +5,7 @@ ghost use Rattle.press_sink.specs.Sending.{sheets_in};
 ghost use Rattle.press_files.specs.Listed.{delivery_of, last_of};
 ghost use Rattle.press_files.specs.Listing.{HasListed, lines_from, sheet_lines};
 
+use crate::lent::Loan;
 use crate::listed_sheet::ListedSheet;
 use crate::listing::list_sheet;
 use crate::taken::Taken;
@@ -12,8 +13,8 @@ use press_devices::{WriteDevice, write_flushed};
 use press_sink::{Sheet, SheetSink, SinkError};
 use std::marker::{Brand, PhantomData};
 
-/// A writer before its listing, and whether sums are listed. It stands in proofs alone; that of a call says what the writer held.
-pub trait Unlisted {
+/// A writer that is lent, what it held before its listing, and whether sums are listed. It stands in proofs alone; that of a call says what the writer held.
+pub trait Unlisted: Loan {
     ghost use Rattle.std.specs.Prelude.{Bool, List, Option, ℕ};
 
     ghost begun: { Option (List ℕ) };

@@ -7,10 +7,9 @@ ghost use Rattle.press_stream.specs.Answers.{fault_of, ending_by};
 ghost use Rattle.press_stream.specs.Printed.{Printed};
 ghost use Rattle.press_files.specs.Printing.{machine_of, status_of_fault, TellsFault};
 
-use press_devices::ReadDevice;
+use press_devices::{ReadDevice, Teller, report};
 use press_sink::{ReplySink, SheetSink};
-use press_stream::{Call, Job, JobError, laws, print_stream};
-use press_telling::{Teller, report};
+use press_stream::{Call, Job, JobError, call_laws, print_stream};
 use std::alloc::Global;
 
 /// Prints the stream of these bytes and of what a reader has behind them, from power on: its sheets are delivered under the tag, and the
@@ -37,7 +36,7 @@ pub(crate) fn print_behind<R: ReadDevice, S: SheetSink, P: ReplySink>(
     ensures cause { IsErrOf result JobError.ReadFault
         → ReadFails (R.failed reader.new) (R.reads reader.new) }
 {
-    laws::chain();
+    call_laws::chain();
     let calls = [Call::Feed(front)];
     let printed = print_stream(alloc, &calls, reader, tag, sheets, replies)?;
     printed.result?;

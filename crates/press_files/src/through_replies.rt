@@ -3,21 +3,32 @@ ghost use Rattle.std.specs.Prelude.{◌≡◌, ◌≢◌, true, false};
 ghost use Rattle.press_sink.specs.Kept.{reply_writer, write_faults};
 ghost use Rattle.press_sink.specs.SinkLog.{written_log};
 
-use crate::told_folder::Folder;
+use crate::lent::Loan;
 use press_devices::WriteDevice;
 use press_sink::{ReplyError, ReplySink, WriteReplies};
-use std::marker::PhantomData;
+use std::marker::{Brand, PhantomData};
+
+/// A writer that is lent, and whether bytes waited there before. It stands in proofs alone; that of a call says which it is.
+pub trait Waited: Loan {
+    ghost use Rattle.std.specs.Prelude.{Bool};
+
+    ghost waited: { Bool };
+}
+
+impl Waited for Brand {
+    ghost waited = { false };
+}
 
 /// A sink that writes replies to a writer. Until one has a fault, nothing waits there if nothing did before the first.
 #[derive(Drop)]
-pub struct ThroughReplies<W: WriteDevice + Drop, D: Folder> {
+pub struct ThroughReplies<W: WriteDevice + Drop, D: Waited> {
     sink: WriteReplies<W>,
     of: PhantomData<D>,
     ghost through: { write_faults sink ≡ 0 → D.waited ≡ false
         → W.waiting (reply_writer sink) ≡ false },
 }
 
-impl<W: WriteDevice + Drop, D: Folder> ThroughReplies<W, D> {
+impl<W: WriteDevice + Drop, D: Waited> ThroughReplies<W, D> {
     /// A sink over a writer, without a fault so far.
     pub fn new(writer: W) -> Self
         requires { W.waiting writer ≡ D.waited }
@@ -42,7 +53,7 @@ impl<W: WriteDevice + Drop, D: Folder> ThroughReplies<W, D> {
     }
 }
 
-impl<W: WriteDevice + Drop, D: Folder> ReplySink for ThroughReplies<W, D> {
+impl<W: WriteDevice + Drop, D: Waited> ReplySink for ThroughReplies<W, D> {
     ghost told = { λ replies.
         written_log (W.contents (reply_writer replies.sink)) (write_faults replies.sink) };
 

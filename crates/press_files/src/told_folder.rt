@@ -11,8 +11,8 @@ use crate::taken::Taken;
 use press_sink::{FolderSink, NamedOutputs, Sheet, SheetSink, SinkError};
 use std::marker::{Brand, PhantomData};
 
-/// A folder: the template by which its outputs are named, what was made before, and whether bytes waited before, of outputs, and in the
-/// writer of the replies. It stands in proofs alone; that of a call says which it is.
+/// A folder: the template by which its outputs are named, what was made before, and whether bytes of outputs waited before. It stands in
+/// proofs alone; that of a call says which it is.
 pub trait Folder {
     ghost use Rattle.std.specs.Prelude.{Bool, List, Option};
 
@@ -21,8 +21,6 @@ pub trait Folder {
     ghost begun: { Option (List MadeOutput) };
 
     ghost waits: { Bool };
-
-    ghost waited: { Bool };
 }
 
 impl Folder for Brand {
@@ -31,8 +29,6 @@ impl Folder for Brand {
     ghost begun = { None };
 
     ghost waits = { false };
-
-    ghost waited = { false };
 }
 
 /// A folder sink up to its first fault, after which it takes no sheet more. It tells the sheets that it took.

@@ -1,3 +1,5 @@
--- Lemmas on pages of streams.
+-- Lemmas on texts and pages of streams, and on debuggers.
+mod DebuggerLemmas
+mod DebuggerSteps
 mod DisassemblyLemmas
 mod PagingLemmas

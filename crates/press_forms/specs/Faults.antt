@@ -1,11 +1,13 @@
--- What is told of a text, of a trace and of the page of a step, in one line.
+-- What is told of a text, of a trace, of the page of a step and of a debugger, in one line.
 use Rattle.std.specs.Prelude.{ℕ, List, Option, Some, None}
 use Rattle.press_units.specs.Faults.{fault_text}
 use Rattle.press_asm.specs.Faults as asm
 use Rattle.press_pbm.specs.Faults as pbm
-use Rattle.press_telling.specs.Telling.{output_text}
+use Rattle.press_devices.specs.Telling.{output_text}
 use Rattle.press_forms.specs.declared.assembly.TextError.{TextError}
 use Rattle.press_forms.specs.declared.assembly.TextError.TheVariants as texts
+use Rattle.press_forms.specs.declared.debugging.DebugError.{DebugError}
+use Rattle.press_forms.specs.declared.debugging.DebugError.TheVariants as debugs
 use Rattle.press_forms.specs.declared.paging.PagingError.{PagingError}
 use Rattle.press_forms.specs.declared.paging.PagingError.TheVariants as pages
 use Rattle.press_trace.specs.Faults as trace
@@ -29,3 +31,9 @@ abbrev pub told_of_page : PagingError → Option (List ℕ)
 told_of_page (pages.Input error) = Some (input_text error)
 told_of_page pages.WriteFault = Some (fault_text (Some pbm.write_fault))
 told_of_page pages.NoMemory = Some (fault_text None)
+
+-- of a debugger
+abbrev pub told_of_debugger : DebugError → Option (List ℕ)
+told_of_debugger (debugs.Input error) = Some (input_text error)
+told_of_debugger (debugs.Output error) = Some output_text
+told_of_debugger debugs.NoMemory = Some (fault_text None)

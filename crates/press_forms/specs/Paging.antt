@@ -1,5 +1,5 @@
 -- The page that is open at a step of a stream, made an output.
-use Rattle.std.specs.Prelude.{◌≡◌, ◌≢◌, ◌≤◌, ◌<◌, ⊤, ℕ, List, [], ◌∷◌, ◌++◌, Option, Some, Result, Ok, Err, codes, length, take}
+use Rattle.std.specs.Prelude.{◌≡◌, ◌≤◌, ◌<◌, ⊤, ℕ, List, [], ◌∷◌, ◌++◌, Option, Some, Result, Ok, Err, codes, length, take}
 use Rattle.std.specs.Fmt.{decimal}
 use Rattle.std.specs.Io.KnownBytes.{Appends}
 use Rattle.press_bits.specs.Page.{Page}
@@ -12,13 +12,10 @@ use Rattle.press_stream.specs.Traced.{IsTraceOf}
 use Rattle.press_debug.specs.Steps.{DebuggerState}
 use Rattle.press_debug.specs.declared.fault.OpenError.{OpenError}
 use Rattle.press_debug.specs.declared.fault.OpenError.TheVariants as opening
-use Rattle.press_files.specs.Causes.{Failures, InputCause}
+use Rattle.press_files.specs.Causes.{InputCause}
 use Rattle.press_files.specs.declared.inputs.InputError.TheVariants as inputs
-use Rattle.press_forms.specs.Causes.{PageCause}
 use Rattle.press_files.specs.Change.{Change}
 use Rattle.press_files.specs.Inputs.{ReadWhole}
-use Rattle.press_forms.specs.Faults.{told_of_page}
-use Rattle.press_telling.specs.Telling.{Tells, as_line}
 use Rattle.press_forms.specs.declared.paging.PagingError.{PagingError}
 use Rattle.press_forms.specs.declared.paging.PagingError.TheVariants.{Input, WriteFault, NoMemory}
 
@@ -94,12 +91,3 @@ end_text taken = codes "the stream ends behind step " ++ (decimal taken ++ 10 �
 pub record TellsEnd (steps : ℕ) (items : List StepResult) (said says : Option (List ℕ)) : Type 0 where
   pub short : length items < steps → Appends said says (end_text (length items))
   pub long : steps ≤ length items → says ≡ said
-
--- The page at a step was made an output of this name, and where the stream ends before that step, it was told behind which; or it was not
--- made, and why is what was told.
-pub record Paging (fails : Failures) (steps : ℕ) (name : List ℕ) (status : ℕ) (told read : Change (Option (List ℕ))) (made : Change (Option (List MadeOutput))) : Type 0 where
-  pub done : status ≡ 0
-      → (paged : PagedInto steps name read.before read.after made.before made.after) × TellsEnd steps paged.1.items told.before told.after
-  pub stops : status ≢ 0
-      → (status ≡ 1) × (why : PagingError) × Tells told.before told.after (as_line (told_of_page why))
-      × StopsPaging steps name read.before read.after made why × PageCause fails why

@@ -2,16 +2,16 @@
 ghost use Rattle.std.specs.Prelude.{◌≡◌, IfOk, IfErr, OnOk, false, true};
 ghost use Rattle.press_devices.specs.Reading.{ReadFails};
 ghost use Rattle.press_forms.specs.Assembly.{Assembled, AssembledTo, TextRefused, StopsAssembling};
-ghost use Rattle.press_forms.specs.Faults.{told_of_text};
+ghost use Rattle.press_forms.specs.Ends.{AssemblingOut};
 ghost use Rattle.press_forms.specs.Causes.{TextCause};
 ghost use Rattle.press_files.specs.Causes.{failures};
-ghost use Rattle.press_telling.specs.Telling.{Ended};
 
 use press_asm::{AssembleError, assemble};
-use press_devices::{ReadDevice, ReadFailed, WriteDevice, write_flushed};
-use press_files::{InputError, read_all};
+use press_devices::{
+    NO_OUTPUT, ReadDevice, ReadFailed, Teller, WriteDevice, report, write_flushed,
+};
+use press_files::{Around, Devices, InputError, Platform, read_all};
 use press_pbm::WRITE_FAULT;
-use press_telling::{NO_OUTPUT, Teller, report};
 use press_units::ToldFault;
 use std::alloc::{AllocError, Global};
 use std::error::Error;
@@ -120,25 +120,21 @@ fn assemble_to<R: ReadDevice, W: WriteDevice>(
     write_flushed(out, &bytes).map_err(|_| TextError::WriteFault)
 }
 
-/// Writes the bytes of the assembly text that a reader has to `out`, and a fault to `err`. Of a text that is refused nothing is
-/// written. The answer is the status: 0, or 1 after a fault.
-pub fn asm_text<R: ReadDevice, W: WriteDevice, E: Teller>(
+/// Writes the bytes of the assembly text that a reader has to standard output, and a fault to standard error. Of a text that is refused nothing
+/// is written. The answer is the status: 0, and nothing waits in standard output, or 1 after a fault.
+pub fn asm_text<R: ReadDevice, P: Platform>(
     alloc: Global,
     reader: &mut R,
-    out: &mut W,
-    err: &mut E,
+    devices: &mut Devices<P>,
 ) -> u8
-    ensures flushed { result ≡ 0 → W.waiting out.new ≡ false }
-    ensures ended { Ended result (E.said err.old) (E.said err.new) told_of_text
-        (AssembledTo (R.remaining reader.old) (R.remaining reader.new)
-        (W.contents out.old) (W.contents out.new))
-        (λ why. StopsAssembling (R.remaining reader.old) (R.remaining reader.new)
-        (W.contents out.old) (W.contents out.new) why
-        × TextCause (failures (ReadFails (R.failed reader.new) (R.reads reader.new))
-        ⊥ ⊥ (W.failed out.new ≡ true)) why) }
+    ensures flushed { result ≡ 0 → P.Out.waiting devices.new.out ≡ false }
+    ensures inputs { devices.new.inputs ≡ devices.old.inputs }
+    ensures outputs { devices.new.outputs ≡ devices.old.outputs }
+    ensures ended { ⟦<Devices<P> as Around<R>>⟧.holds AssemblingOut
+        result reader.old reader.new devices.old devices.new }
 {
-    match assemble_to(alloc, reader, out) {
+    match assemble_to(alloc, reader, &mut devices.out) {
         Ok(()) => 0,
-        Err(error) => report(&error, err),
+        Err(error) => report(&error, &mut devices.err),
     }
 }

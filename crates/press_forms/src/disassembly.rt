@@ -3,39 +3,36 @@ ghost use Rattle.std.specs.Prelude.{◌≡◌, IfOk, IfErr, OnErr, OnOk, false, 
 ghost use Rattle.std.specs.Io.KnownBytes.{Keeps};
 ghost use Rattle.press_devices.specs.Reading.{ReadFails};
 ghost use Rattle.press_forms.specs.Assembly.{DisassembledTo, ListsToEnd, StopsDisassembling, StopsLines, WritesLines};
-ghost use Rattle.press_forms.specs.Faults.{told_of_text};
+ghost use Rattle.press_forms.specs.Ends.{Disassembling};
 ghost use Rattle.press_forms.specs.Causes.{TextCause};
 ghost use Rattle.press_files.specs.Causes.{failures};
-ghost use Rattle.press_telling.specs.Telling.{Ended};
 ghost use Rattle.press_forms.specs.declared.assembly.TextError.{TextError};
 
 use crate::assembly::TextError;
-use press_devices::{PIECE, ReadCount, ReadDevice, WriteDevice, read_next, write_whole};
+use press_devices::{
+    PIECE, ReadCount, ReadDevice, Teller, WriteDevice, read_next, report, write_whole,
+};
 use press_disasm::write_lines;
+use press_files::{Around, Devices, Platform};
 use press_scan::Scanner;
-use press_telling::{Teller, report};
 use std::alloc::Global;
 
-/// Writes the assembly text of the stream that a reader has to `out`, and a fault to `err`: the lines of a piece before the next one
-/// is read. After a fault the lines of the first commands stand there. The answer is the status: 0, or 1 after a fault.
-pub fn disasm_bytes<R: ReadDevice, W: WriteDevice, E: Teller>(
+/// Writes the assembly text of the stream that a reader has to standard output, and a fault to standard error: the lines of a piece before the
+/// next one is read. After a fault the lines of the first commands stand there. The answer is the status: 0, or 1 after a fault.
+pub fn disasm_bytes<R: ReadDevice, P: Platform>(
     alloc: Global,
     reader: &mut R,
-    out: &mut W,
-    err: &mut E,
+    devices: &mut Devices<P>,
 ) -> u8
-    ensures flushed { result ≡ 0 → W.waiting out.new ≡ false }
-    ensures ended { Ended result (E.said err.old) (E.said err.new) told_of_text
-        (DisassembledTo (R.remaining reader.old) (R.remaining reader.new)
-        (W.contents out.old) (W.contents out.new))
-        (λ why. StopsDisassembling (R.remaining reader.old) (R.remaining reader.new)
-        (W.contents out.old) (W.contents out.new) why
-        × TextCause (failures (ReadFails (R.failed reader.new) (R.reads reader.new))
-        ⊥ (W.failed out.new ≡ true) ⊥) why) }
+    ensures flushed { result ≡ 0 → P.Out.waiting devices.new.out ≡ false }
+    ensures inputs { devices.new.inputs ≡ devices.old.inputs }
+    ensures outputs { devices.new.outputs ≡ devices.old.outputs }
+    ensures ended { ⟦<Devices<P> as Around<R>>⟧.holds Disassembling
+        result reader.old reader.new devices.old devices.new }
 {
-    match disassemble_to(alloc, reader, out) {
+    match disassemble_to(alloc, reader, &mut devices.out) {
         Ok(()) => 0,
-        Err(error) => report(&error, err),
+        Err(error) => report(&error, &mut devices.err),
     }
 }
 

@@ -6,18 +6,18 @@ ghost use Rattle.press_files.specs.Change.{change};
 ghost use Rattle.press_forms.specs.Causes.{PageCause};
 ghost use Rattle.press_table.specs.Closing.{page_now};
 ghost use Rattle.press_table.specs.Place.{blank_page};
-ghost use Rattle.press_forms.specs.Paging.{IsUnpaged, MakesPage, PagedBehind, Paging, StandsIn, StopsPaging};
+ghost use Rattle.press_forms.specs.Ends.{Paging};
+ghost use Rattle.press_forms.specs.Paging.{IsUnpaged, MakesPage, PagedBehind, StandsIn, StopsPaging};
 ghost use Rattle.press_forms.specs.declared.paging.PagingError.{PagingError};
 
 use press_bits::{Bitmap, BlankError};
-use press_debug::laws::places;
+use press_debug::place_laws::places;
 use press_debug::{OpenError, Stepper, Taken};
-use press_devices::ReadDevice;
-use press_files::InputError;
+use press_devices::{ReadDevice, Teller, WriteDevice, report};
+use press_files::{Around, Devices, InputError, Platform};
 use press_page::PageSetup;
 use press_pbm::{WRITE_FAULT, WritePbmError};
 use press_sink::{NamedOutputs, write_page};
-use press_telling::{Teller, report};
 use press_units::ToldFault;
 use std::alloc::{AllocError, Global};
 use std::error::Error;
@@ -102,35 +102,32 @@ impl fmt::Display for EndsBehind {
 }
 
 /// Makes the output of this name, the P4 file of the page that is open behind so many table steps of the stream that a reader has:
-/// blank where no mark was made. Where the stream has fewer steps it is the page behind the last, and `err` is told how many there
-/// are. A fault is told to `err`, too. The answer is the status: 0, or 1 after a fault.
+/// blank where no mark was made. Where the stream has fewer steps it is the page behind the last, and standard error is told how many there
+/// are. A fault is told there, too. The answer is the status: 0, or 1 after a fault.
 ///
 /// Source: PCL 5 Printer Language Technical Reference Manual, The PCL Print Model; Netpbm, the raw form of the PBM format.
-pub fn page_file<R: ReadDevice, O: NamedOutputs, E: Teller>(
+pub fn page_file<R: ReadDevice, P: Platform>(
     alloc: Global,
-    reader: &mut R,
     steps: u64,
-    outputs: &mut O,
     name: &str,
-    err: &mut E,
+    reader: &mut R,
+    devices: &mut Devices<P>,
 ) -> u8
-    ensures through { result ≡ 0 → O.waiting outputs.new ≡ O.waiting outputs.old }
-    ensures pages { Paging
-        (failures (ReadFails (R.failed reader.new) (R.reads reader.new))
-        ⊥ ⊥ (O.failed outputs.new ≡ true))
-        steps name.now result
-        (change (E.said err.old) (E.said err.new))
-        (change (R.remaining reader.old) (R.remaining reader.new))
-        (change (O.made outputs.old) (O.made outputs.new)) }
+    ensures inputs { devices.new.inputs ≡ devices.old.inputs }
+    ensures out { devices.new.out ≡ devices.old.out }
+    ensures through { result ≡ 0
+        → P.Outputs.waiting devices.new.outputs ≡ P.Outputs.waiting devices.old.outputs }
+    ensures pages { ⟦<Devices<P> as Around<R>>⟧.holds (Paging steps name.now)
+        result reader.old reader.new devices.old devices.new }
 {
-    match make_page(alloc, reader, steps, outputs, name) {
+    match make_page(alloc, reader, steps, &mut devices.outputs, name) {
         Ok(taken) => {
             if taken < steps {
-                err.tell(&EndsBehind(taken));
+                devices.err.tell(&EndsBehind(taken));
             }
             0
         }
-        Err(error) => report(&error, err),
+        Err(error) => report(&error, &mut devices.err),
     }
 }
 

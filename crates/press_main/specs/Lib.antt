@@ -1,2 +1,3 @@
 -- What the program does for its words.
 pub mod Program
+pub mod Tables

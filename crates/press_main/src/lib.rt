@@ -7,14 +7,16 @@ mod behind;
 mod making;
 mod program;
 mod sparing;
+mod tables;
 
 pub use making::{asm_file, job_file};
+pub use press_devices::Teller;
 pub use press_files::{
-    Finished, InputError, NamedFile, NamedFiles, NamedInputs, print_files, print_list, print_sums,
+    Devices, InputError, NamedFile, NamedFiles, NamedInputs, Platform, print_files, print_list,
+    print_sums, write_files,
 };
-pub use press_forms::{PagingError, asm_text, disasm_bytes, page_file, tell_trace};
-pub use press_jobs::write_files;
-pub use press_sessions::{Played, debug_lines, press_lines};
-pub use press_telling::Teller;
+pub use press_forms::{PagingError, asm_text, debug_lines, disasm_bytes, page_file, tell_trace};
+pub use press_sessions::press_lines;
 pub use press_words::{Input, Output, Refusal, Request, SessionRequest, request_of};
-pub use program::{Performed, run_words};
+pub use program::run_words;
+pub use tables::tables_text;

@@ -1,50 +1,44 @@
 //! Outputs that are made of a text, and of a ticket.
-ghost use Rattle.std.specs.Prelude.{◌≡◌, true, map, IfErr, OnOk};
-ghost use Rattle.press_devices.specs.Reading.{ReadFails, SomeFails};
+ghost use Rattle.std.specs.Prelude.{◌≡◌, true, IfErr, OnOk};
+ghost use Rattle.press_devices.specs.Reading.{ReadFails};
 ghost use Rattle.press_files.specs.Causes.{failures};
 ghost use Rattle.press_files.specs.Change.{change};
 ghost use Rattle.press_forms.specs.Causes.{TextCause};
-ghost use Rattle.press_jobs.specs.Causes.{JobCause};
+ghost use Rattle.press_files.specs.JobCauses.{JobCause};
 ghost use Rattle.press_forms.specs.Assembly.{AssembledInto, StopsMaking};
-ghost use Rattle.press_jobs.specs.Jobs.{MakesAJob, MakesNoJob, MakesTheTicket, StopsMakingJob};
-ghost use Rattle.press_forms.specs.Faults.{told_of_text};
-ghost use Rattle.press_jobs.specs.Faults.{told_of_job};
-ghost use Rattle.press_files.specs.NamedInputs.{named};
-ghost use Rattle.press_telling.specs.Telling.{Ended};
+ghost use Rattle.press_files.specs.Jobs.{MakesAJob, MakesNoJob, MakesTheTicket, StopsMakingJob};
+ghost use Rattle.press_files.specs.Edge.{inputs_called, lent_texts};
+ghost use Rattle.press_forms.specs.Ends.{Assembling};
+ghost use Rattle.press_files.specs.Ends.{Writing};
 
 use press_bits::Bitmap;
-use press_devices::ReadDevice;
-use press_files::NamedInputs;
+use press_devices::{ReadDevice, Teller, WriteDevice, report};
+use press_files::{Around, Devices, JobFileError, NamedInputs, Platform, images_named, ticket_in};
 use press_forms::{TextError, assembled};
-use press_jobs::{JobFileError, images_named, ticket_in};
 use press_printing::write_job;
 use press_sink::{NamedOutputs, write_output};
-use press_telling::{Teller, report};
 use press_ticket::Ticket;
 use press_writer::{WriterError, check};
 use std::alloc::Global;
 
-/// Makes the output of this name, which holds the bytes of the assembly text that a reader has, and writes a fault to `err`. Of a text
+/// Makes the output of this name, which holds the bytes of the assembly text that a reader has, and writes a fault to standard error. Of a text
 /// that is refused nothing is made. The answer is the status: 0, and nothing of it waits in the program, or 1 after a fault.
-pub fn asm_file<R: ReadDevice, O: NamedOutputs, E: Teller>(
+pub fn asm_file<R: ReadDevice, P: Platform>(
     alloc: Global,
-    reader: &mut R,
-    outputs: &mut O,
     name: &str,
-    err: &mut E,
+    reader: &mut R,
+    devices: &mut Devices<P>,
 ) -> u8
-    ensures through { result ≡ 0 → O.waiting outputs.new ≡ O.waiting outputs.old }
-    ensures ended { Ended result (E.said err.old) (E.said err.new) told_of_text
-        (AssembledInto name.now (R.remaining reader.old) (R.remaining reader.new)
-        (O.made outputs.old) (O.made outputs.new))
-        (λ why. StopsMaking name.now (R.remaining reader.old) (R.remaining reader.new)
-        (O.made outputs.old) (O.made outputs.new) why
-        × TextCause (failures (ReadFails (R.failed reader.new) (R.reads reader.new))
-        ⊥ ⊥ (O.failed outputs.new ≡ true)) why) }
+    ensures inputs { devices.new.inputs ≡ devices.old.inputs }
+    ensures out { devices.new.out ≡ devices.old.out }
+    ensures through { result ≡ 0
+        → P.Outputs.waiting devices.new.outputs ≡ P.Outputs.waiting devices.old.outputs }
+    ensures ended { ⟦<Devices<P> as Around<R>>⟧.holds (Assembling name.now)
+        result reader.old reader.new devices.old devices.new }
 {
-    match make_stream(alloc, reader, outputs, name) {
+    match make_stream(alloc, reader, &mut devices.outputs, name) {
         Ok(()) => 0,
-        Err(error) => report(&error, err),
+        Err(error) => report(&error, &mut devices.err),
     }
 }
 
@@ -69,33 +63,29 @@ fn make_stream<R: ReadDevice, O: NamedOutputs>(
 }
 
 /// Makes the output of this name, which holds the job of the ticket that a reader has, with the images of the inputs of these names
-/// in the order of its pages, and writes a fault to `err`. Nothing is made before the images are found to fit. The answer is the
+/// in the order of its pages, and writes a fault to standard error. Nothing is made before the images are found to fit. The answer is the
 /// status: 0, and nothing of it waits in the program, or 1 after a fault.
-pub fn job_file<T: ReadDevice, I: NamedInputs, O: NamedOutputs, E: Teller>(
+pub fn job_file<T: ReadDevice, P: Platform>(
     alloc: Global,
-    ticket: &mut T,
-    inputs: &I,
-    names: &[&[u8]],
-    outputs: &mut O,
     name: &str,
-    err: &mut E,
+    names: &[&[u8]],
+    ticket: &mut T,
+    devices: &mut Devices<P>,
 ) -> u8
-    ensures through { result ≡ 0 → O.waiting outputs.new ≡ O.waiting outputs.old }
-    ensures ended { Ended result (E.said err.old) (E.said err.new) told_of_job
-        (MakesTheTicket name.now (T.remaining ticket.old) (T.remaining ticket.new)
-        (map (λ name. named (SomeFails I.Input.failed I.Input.reads)
-        (I.bytes inputs.now) (I.missing inputs.now) name.now) names.now)
-        (O.made outputs.old) (O.made outputs.new))
-        (λ why. StopsMakingJob name.now (T.remaining ticket.old) (T.remaining ticket.new)
-        (map (λ name. named (SomeFails I.Input.failed I.Input.reads)
-        (I.bytes inputs.now) (I.missing inputs.now) name.now) names.now)
-        (change (O.made outputs.old) (O.made outputs.new)) why
-        × JobCause (failures (ReadFails (T.failed ticket.new) (T.reads ticket.new))
-        ⊥ ⊥ (O.failed outputs.new ≡ true))
-        (T.remaining ticket.old) (T.remaining ticket.new)
-        (map (λ name. named (SomeFails I.Input.failed I.Input.reads)
-        (I.bytes inputs.now) (I.missing inputs.now) name.now) names.now) why) }
+    ensures inputs { devices.new.inputs ≡ devices.old.inputs }
+    ensures out { devices.new.out ≡ devices.old.out }
+    ensures through { result ≡ 0
+        → P.Outputs.waiting devices.new.outputs ≡ P.Outputs.waiting devices.old.outputs }
+    ensures ended { ⟦<Devices<P> as Around<T>>⟧.holds_by_inputs
+        (Writing name.now (lent_texts names.now)) result
+        ticket.old ticket.new devices.old devices.new }
 {
+    let Devices {
+        inputs,
+        outputs,
+        err,
+        ..
+    } = devices;
     match make_ticket(alloc, ticket, inputs, names, outputs, name) {
         Ok(()) => 0,
         Err(error) => report(&error, err),
@@ -113,21 +103,18 @@ fn make_ticket<T: ReadDevice, I: NamedInputs, O: NamedOutputs>(
 ) -> Result<(), JobFileError>
     ensures ok { OnOk result (MakesTheTicket name.now
         (T.remaining ticket.old) (T.remaining ticket.new)
-        (map (λ name. named (SomeFails I.Input.failed I.Input.reads)
-        (I.bytes inputs.now) (I.missing inputs.now) name.now) names.now)
+        (inputs_called I.Input.ReadDevice I.NamedInputs inputs.now names.now)
         (O.made outputs.old) (O.made outputs.new)) }
     ensures through { OnOk result (O.waiting outputs.new ≡ O.waiting outputs.old) }
     ensures err { IfErr result (λ why. StopsMakingJob name.now (T.remaining ticket.old)
         (T.remaining ticket.new)
-        (map (λ name. named (SomeFails I.Input.failed I.Input.reads)
-        (I.bytes inputs.now) (I.missing inputs.now) name.now) names.now)
+        (inputs_called I.Input.ReadDevice I.NamedInputs inputs.now names.now)
         (change (O.made outputs.old) (O.made outputs.new)) why) }
     ensures cause { IfErr result (JobCause
         (failures (ReadFails (T.failed ticket.new) (T.reads ticket.new))
         ⊥ ⊥ (O.failed outputs.new ≡ true))
         (T.remaining ticket.old) (T.remaining ticket.new)
-        (map (λ name. named (SomeFails I.Input.failed I.Input.reads)
-        (I.bytes inputs.now) (I.missing inputs.now) name.now) names.now)) }
+        (inputs_called I.Input.ReadDevice I.NamedInputs inputs.now names.now)) }
 {
     let ticket = ticket_in(alloc, ticket)?;
     let images = images_named(alloc, inputs, names)?;

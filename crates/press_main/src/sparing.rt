@@ -18,6 +18,7 @@ pub(crate) fn spare_inputs<O: NamedOutputs>(
 ) -> Result<(), SinkError>
     ensures made { O.made outputs.new ≡ O.made outputs.old }
     ensures through { O.waiting outputs.new ≡ O.waiting outputs.old }
+    ensures failed { O.failed outputs.new ≡ O.failed outputs.old }
     ensures own { IfErr result (λ error.
         error ≡ SinkFault → PrintsAFile (request_seen request.now)) }
     ensures spared { OnOk result (¬ (PrintsAFile (request_seen request.now))) }
@@ -42,6 +43,7 @@ pub(crate) fn spare_inputs<O: NamedOutputs>(
 fn spare<O: NamedOutputs>(outputs: &mut O, names: &[&str]) -> Result<(), SinkError>
     ensures made { O.made outputs.new ≡ O.made outputs.old }
     ensures through { O.waiting outputs.new ≡ O.waiting outputs.old }
+    ensures failed { O.failed outputs.new ≡ O.failed outputs.old }
     ensures memory { IfErr result (λ error. error ≡ NoMemory) }
 {
     for name in names {

@@ -1,4 +1,5 @@
 -- The lemmas of calls over bytes in memory.
+mod Edges
 mod JobLemmas
 mod RoomLemmas
 mod WrittenLemmas

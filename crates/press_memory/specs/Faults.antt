@@ -10,8 +10,8 @@ use Rattle.press_forms.specs.declared.assembly.TextError.{TextError}
 use Rattle.press_forms.specs.declared.assembly.TextError.TheVariants as texts
 use Rattle.press_writer.specs.declared.fault.WriterError.{WriterError}
 use Rattle.press_writer.specs.declared.fault.WriterError.TheVariants as writers
-use Rattle.press_jobs.specs.declared.jobs.JobFileError.{JobFileError}
-use Rattle.press_jobs.specs.declared.jobs.JobFileError.TheVariants as jobs
+use Rattle.press_files.specs.declared.jobs.JobFileError.{JobFileError}
+use Rattle.press_files.specs.declared.jobs.JobFileError.TheVariants as jobs
 
 -- no fault
 abbrev pub no_fault : ℕ

@@ -1,53 +1,46 @@
 -- What the program writes of bytes in memory, call by call: each as the clause of the call that the program makes says it.
-use Rattle.std.specs.Prelude.{◌≡◌, ◌⊎◌, ℕ, Bool, true, false, List, [], ◌∷◌, ◌++◌, Option, Some, None, codes, ⊤}
+use Rattle.std.specs.Prelude.{◌≡◌, ◌⊎◌, ℕ, List, [], ◌∷◌, ◌++◌, Option, Some, None, codes, true, false, ⊤}
 use Rattle.std.specs.List.{flat_map}
-use Rattle.press_devices.specs.Reading.{ReadFails}
 use Rattle.press_sink.specs.Outputs.{MadeOutput}
-use Rattle.press_telling.specs.Telling.{Ended}
-use Rattle.press_files.specs.Causes.{failures}
-use Rattle.press_files.specs.Change.{around, change, Edge}
-use Rattle.press_files.specs.Files.{PrintsFiles, PrintsNoFiles}
-use Rattle.press_files.specs.Listing.{PrintsListingBy}
-use Rattle.press_forms.specs.Assembly.{Assembled, TextRefused, DisassembledTo, StopsDisassembling}
-use Rattle.press_forms.specs.Causes.{TextCause}
-use Rattle.press_forms.specs.Faults.{told_of_text}
-use Rattle.press_forms.specs.Traced.{Tracing}
+use Rattle.press_files.specs.Edge.{Edge, Promise, fails_of}
+use Rattle.press_files.specs.Ends.{PrintingFiles, PrintingList}
+use Rattle.press_forms.specs.Assembly.{Assembled, TextRefused}
+use Rattle.press_forms.specs.Ends.{Disassembling, Tracing}
 use Rattle.press_forms.specs.declared.assembly.TextError.{TextError}
 use Rattle.press_bits.specs.Page.{Page}
 use Rattle.press_pbm.specs.File.{IsFile, Refused}
 use Rattle.press_ticket.specs.Ticket.{JobTicket}
 use Rattle.press_writer.specs.declared.fault.WriterError.{WriterError}
-use Rattle.press_jobs.specs.Jobs.{TicketRead, TicketRefused, WritesAJob, WritesNoJob}
-use Rattle.press_jobs.specs.declared.jobs.JobFileError.{JobFileError}
-use Rattle.press_jobs.specs.declared.jobs.JobFileError.TheVariants as jobs
+use Rattle.press_files.specs.Jobs.{TicketRead, TicketRefused, WritesAJob, WritesNoJob}
+use Rattle.press_files.specs.declared.jobs.JobFileError.{JobFileError}
+use Rattle.press_files.specs.declared.jobs.JobFileError.TheVariants as jobs
 use Rattle.press_memory.specs.Faults.{no_fault, fault_of, text_number, job_number, writer_number, EndsBy}
 
--- What a call left of the reader of its bytes and of the writer: what is not read, whether a read failed, how many there were, and whether a
--- write failed.
-pub record Left : Type 0 where
-  pub unread : Option (List ℕ)
-  pub failed : Bool
-  pub reads : ℕ
-  pub cut : Bool
-
--- the reader is not read on
-abbrev pub IsGivenUp : Left → Type 0
-IsGivenUp left = ReadFails left.failed left.reads
-
--- The listing of a stream behind these bytes is written, with sums or without.
-pub record ListedBy (sums : Bool) (prefix stream : List ℕ) (fault : ℕ) (written : List ℕ) : Type 0 where
-  pub left : Left
+-- What the program does with these bytes, of which this holds, writes this to standard output, which held nothing, and ends with this fault.
+pub record Does (Holds : Promise) (bytes : List ℕ) (fault : ℕ) (written : List ℕ) : Type 0 where
   pub status : ℕ
-  pub ends : EndsBy status (IsGivenUp left) fault
-  pub lists : PrintsListingBy sums (failures (IsGivenUp left) ⊥ (left.cut ≡ true) ⊥) status prefix
-      (change None None) (change (Some stream) left.unread) (change (Some []) (Some written))
+  pub before : Edge
+  pub after : Edge
+  pub had : before.unread ≡ Some bytes
+  pub empty : before.written ≡ Some []
+  pub wrote : after.written ≡ Some written
+  pub ends : EndsBy status (fails_of after).input fault
+  pub holds : Holds status before after
 
--- It is written without (`print_list`), or with the SHA-256 of each side (`print_sums`).
+-- The listing of a stream behind these bytes is written without sums (`print_list`), or with the SHA-256 of each side (`print_sums`).
 abbrev pub ListingOf : (prefix stream : List ℕ) (fault : ℕ) (written : List ℕ) → Type 0
-ListingOf = ListedBy false
+ListingOf prefix = Does (PrintingList false prefix)
 
 abbrev pub SumsOf : (prefix stream : List ℕ) (fault : ℕ) (written : List ℕ) → Type 0
-SumsOf = ListedBy true
+SumsOf prefix = Does (PrintingList true prefix)
+
+-- The trace of a stream behind these bytes is written (`tell_trace`).
+abbrev pub TraceOf : (prefix stream : List ℕ) (fault : ℕ) (written : List ℕ) → Type 0
+TraceOf prefix stream = Does Tracing (prefix ++ stream)
+
+-- The assembly text of a stream is written (`disasm_bytes`).
+abbrev pub TextOf : (stream : List ℕ) (fault : ℕ) (written : List ℕ) → Type 0
+TextOf = Does Disassembling
 
 -- what an output holds; one that was not closed holds nothing
 abbrev pub held_bytes : Option (List ℕ) → List ℕ
@@ -62,42 +55,19 @@ held_by_all outputs = flat_map (λ (output : MadeOutput). held_bytes output.hold
 abbrev pub number_alone : List ℕ
 number_alone = codes "%d"
 
--- that a device failed of which this is not known
-abbrev pub MayFail : Type 0
-MayFail = true ≡ true
-
--- Where outputs are made and replies go, which nobody reads.
-abbrev pub at_outputs : (left : Left) (stream : List ℕ) (made : List MadeOutput) → Edge
-at_outputs left stream made =
-    around (failures (IsGivenUp left) ⊥ MayFail MayFail) None None (Some stream) left.unread None None (Some []) (Some made)
-
 -- The P4 files of all sides of a stream behind these bytes are written, one behind the other: what the outputs hold that are made of them
 -- (`print_files`).
 pub record SidesOf (prefix stream : List ℕ) (fault : ℕ) (written : List ℕ) : Type 0 where
-  pub left : Left
   pub status : ℕ
-  pub ends : EndsBy status (IsGivenUp left) fault
+  pub before : Edge
+  pub after : Edge
   pub made : List MadeOutput
+  pub had : before.unread ≡ Some stream
+  pub none : before.made ≡ Some []
+  pub makes : after.made ≡ Some made
   pub holds : written ≡ held_by_all made
-  pub prints : PrintsFiles number_alone prefix status (at_outputs left stream made) ⊎ PrintsNoFiles number_alone status (at_outputs left stream made)
-
--- The trace of a stream behind these bytes is written (`tell_trace`).
-pub record TraceOf (prefix stream : List ℕ) (fault : ℕ) (written : List ℕ) : Type 0 where
-  pub left : Left
-  pub status : ℕ
-  pub ends : EndsBy status (IsGivenUp left) fault
-  pub traces : Tracing (failures (IsGivenUp left) ⊥ (left.cut ≡ true) ⊥) status
-      (change None None) (change (Some (prefix ++ stream)) left.unread) (change (Some []) (Some written))
-
--- The assembly text of a stream is written (`disasm_bytes`).
-pub record TextOf (stream : List ℕ) (fault : ℕ) (written : List ℕ) : Type 0 where
-  pub left : Left
-  pub status : ℕ
-  pub ends : EndsBy status (IsGivenUp left) fault
-  pub disassembles : Ended status None None told_of_text
-      (DisassembledTo (Some stream) left.unread (Some []) (Some written))
-      (λ why. StopsDisassembling (Some stream) left.unread (Some []) (Some written) why
-      × TextCause (failures (IsGivenUp left) ⊥ (left.cut ≡ true) ⊥) why)
+  pub ends : EndsBy status (fails_of after).input fault
+  pub prints : PrintingFiles prefix number_alone status before after
 
 -- The stream of an assembly text is written; or the text is refused, this is why, and nothing is written (`assembled`).
 abbrev pub StreamOf : (text : List ℕ) (fault : ℕ) (written : List ℕ) → Type 0

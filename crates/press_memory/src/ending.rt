@@ -6,8 +6,8 @@ ghost use Rattle.press_memory.specs.Faults.{fault_of, job_number, text_number, w
 
 use crate::answer::{NO_FAULT, NO_MEMORY};
 use press_devices::{READ_FAULT, Watched};
+use press_files::JobFileError;
 use press_forms::TextError;
-use press_jobs::JobFileError;
 use press_pbm::WRITE_FAULT;
 use press_writer::WriterError;
 

@@ -1,13 +1,13 @@
 //! The job of a ticket with images in memory.
 ghost use Rattle.std.specs.Prelude.{IfOk, IfErr, OnOk};
-ghost use Rattle.press_jobs.specs.Jobs.{WritesAJob, WritesNoJob};
+ghost use Rattle.press_files.specs.Jobs.{WritesAJob, WritesNoJob};
 ghost use Rattle.press_memory.specs.Written.{AreImages, AreNoImages, JobOf, WritesOrStops};
 
 use crate::answer::{NO_FAULT, Written};
 use crate::ending::{fault_of, job_number, writer_number};
 use press_bits::Bitmap;
 use press_devices::{Watched, WriteDevice};
-use press_jobs::{JobFileError, ticket_in};
+use press_files::{JobFileError, ticket_in};
 use press_pbm::read_pbm;
 use press_printing::write_job;
 use press_ticket::Ticket;

@@ -2,6 +2,7 @@
 #![tactic(auto)]
 
 mod answer;
+mod around;
 mod calls;
 mod ending;
 mod job;

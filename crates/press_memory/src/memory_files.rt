@@ -34,6 +34,14 @@ pub(crate) struct MemoryFiles<'a> {
 }
 
 impl<'a> MemoryFiles<'a> {
+    /// No files.
+    pub(crate) fn none(alloc: Global) -> Self {
+        MemoryFiles {
+            files: Vec::new(alloc),
+            failed: false,
+        }
+    }
+
     /// The files of a block, up to the first that is none.
     ///
     /// # Errors

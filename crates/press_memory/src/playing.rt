@@ -5,6 +5,7 @@ use crate::answer::{NO_MEMORY, Written};
 use crate::memory_files::MemoryFiles;
 use crate::told::LastTold;
 use press_devices::Watched;
+use press_files::Devices;
 use press_sessions::press_lines;
 use press_sink::ListOutputs;
 use press_words::SessionRequest;
@@ -15,18 +16,17 @@ pub(crate) fn session(alloc: Global, engines: u64, files: &[u8], lines: &[u8]) -
     ensures { SessionOf engines lines.now result.fault result.bytes.items }
 {
     match MemoryFiles::in_block(alloc, files) {
-        Ok(inputs) => played(alloc, engines, &inputs, lines),
+        Ok(inputs) => played(alloc, engines, inputs, lines),
         Err(_) => Written::nothing(alloc, NO_MEMORY),
     }
 }
 
 /// The same with these files.
-fn played(alloc: Global, engines: u64, inputs: &MemoryFiles<'_>, lines: &[u8]) -> Written
+fn played(alloc: Global, engines: u64, inputs: MemoryFiles<'_>, lines: &[u8]) -> Written
     ensures { SessionOf engines lines.now result.fault result.bytes.items }
 {
     let mut reader = Watched::new(lines);
-    let mut out = Watched::new(Vec::new(alloc));
-    let mut told = LastTold::nothing();
+    let out = Watched::new(Vec::new(alloc));
     let asked = SessionRequest {
         engines,
         template: None,
@@ -34,17 +34,10 @@ fn played(alloc: Global, engines: u64, inputs: &MemoryFiles<'_>, lines: &[u8]) -
         goes_on: false,
     };
     let outputs = ListOutputs::new(alloc);
-    let played = press_lines(
-        alloc,
-        inputs,
-        outputs,
-        asked,
-        &mut reader,
-        &mut out,
-        &mut told,
-    );
+    let mut devices = Devices::new(inputs, outputs, out, LastTold::nothing());
+    let status = press_lines(alloc, asked, &mut reader, &mut devices);
     Written {
-        fault: told.fault(played.status),
-        bytes: out.into_inner(),
+        fault: devices.err.fault(status),
+        bytes: devices.out.into_inner(),
     }
 }

@@ -6,10 +6,11 @@ ghost use Rattle.press_memory.specs.Written.{SidesOf};
 
 use crate::answer::{RombixelaAnswer, hand_over};
 use crate::ending::fault_after;
+use crate::memory_files::MemoryFiles;
 use crate::room_outputs::{Lent, RoomOutputs};
 use crate::settings::prefix_in;
 use press_devices::Watched;
-use press_files::print_files;
+use press_files::{Devices, print_files};
 use std::alloc::Global;
 use std::io;
 use std::marker::Brand;
@@ -49,17 +50,11 @@ fn sides_behind<'r, D: Lent>(
 {
     let mut reader = Watched::new(stream);
     let outputs: RoomOutputs<'r, D> = RoomOutputs::new(alloc, room);
-    let printed = print_files(
-        alloc,
-        outputs,
-        prefix,
-        &mut reader,
-        NAMES,
-        io::sink(),
-        &mut io::sink(),
-    );
-    let fault = fault_after(printed.status, &reader);
-    let (room, mut answer) = printed.outputs.into_parts();
+    let inputs = MemoryFiles::none(alloc);
+    let mut devices = Devices::new(inputs, outputs, io::sink(), io::sink());
+    let status = print_files(alloc, prefix, NAMES, &mut reader, &mut devices);
+    let fault = fault_after(status, &reader);
+    let (room, mut answer) = devices.outputs.into_parts();
     answer.fault = fault;
     (room, answer)
 }

@@ -3,13 +3,14 @@ ghost use Rattle.press_memory.specs.Settings.{BySettings};
 ghost use Rattle.press_memory.specs.Written.{ListingOf, SumsOf, TextOf, TraceOf};
 
 use crate::answer::Written;
+use crate::around::in_memory;
 use crate::ending::fault_after;
 use crate::settings::prefix_in;
 use press_devices::Watched;
 use press_files::{print_list, print_sums};
 use press_forms::{disasm_bytes, tell_trace};
 use std::alloc::Global;
-use std::io::{self, Read};
+use std::io::Read;
 
 /// The listing of a stream, by settings.
 pub(crate) fn listing(alloc: Global, settings: &[u8], stream: &[u8]) -> Written
@@ -27,11 +28,11 @@ fn listing_behind(alloc: Global, prefix: &[u8], stream: &[u8]) -> Written
     ensures { ListingOf prefix.now stream.now result.fault result.bytes.items }
 {
     let mut reader = Watched::new(stream);
-    let out = Watched::new(Vec::new(alloc));
-    let listed = print_list(alloc, prefix, &mut reader, out, &mut io::sink());
+    let mut devices = in_memory(alloc);
+    let status = print_list(alloc, prefix, &mut reader, &mut devices);
     Written {
-        fault: fault_after(listed.status, &reader),
-        bytes: listed.out.into_inner(),
+        fault: fault_after(status, &reader),
+        bytes: devices.out.into_inner(),
     }
 }
 
@@ -51,11 +52,11 @@ fn sums_behind(alloc: Global, prefix: &[u8], stream: &[u8]) -> Written
     ensures { SumsOf prefix.now stream.now result.fault result.bytes.items }
 {
     let mut reader = Watched::new(stream);
-    let out = Watched::new(Vec::new(alloc));
-    let listed = print_sums(alloc, prefix, &mut reader, out, &mut io::sink());
+    let mut devices = in_memory(alloc);
+    let status = print_sums(alloc, prefix, &mut reader, &mut devices);
     Written {
-        fault: fault_after(listed.status, &reader),
-        bytes: listed.out.into_inner(),
+        fault: fault_after(status, &reader),
+        bytes: devices.out.into_inner(),
     }
 }
 
@@ -75,11 +76,11 @@ fn trace_behind(alloc: Global, prefix: &[u8], stream: &[u8]) -> Written
     ensures { TraceOf prefix.now stream.now result.fault result.bytes.items }
 {
     let mut reader = Watched::new(prefix.chain(stream));
-    let mut out = Watched::new(Vec::new(alloc));
-    let status = tell_trace(alloc, &mut reader, &mut out, &mut io::sink());
+    let mut devices = in_memory(alloc);
+    let status = tell_trace(alloc, &mut reader, &mut devices);
     Written {
         fault: fault_after(status, &reader),
-        bytes: out.into_inner(),
+        bytes: devices.out.into_inner(),
     }
 }
 
@@ -88,10 +89,10 @@ pub(crate) fn text(alloc: Global, stream: &[u8]) -> Written
     ensures { TextOf stream.now result.fault result.bytes.items }
 {
     let mut reader = Watched::new(stream);
-    let mut out = Watched::new(Vec::new(alloc));
-    let status = disasm_bytes(alloc, &mut reader, &mut out, &mut io::sink());
+    let mut devices = in_memory(alloc);
+    let status = disasm_bytes(alloc, &mut reader, &mut devices);
     Written {
         fault: fault_after(status, &reader),
-        bytes: out.into_inner(),
+        bytes: devices.out.into_inner(),
     }
 }

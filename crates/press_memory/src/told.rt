@@ -3,7 +3,7 @@ ghost use Rattle.std.specs.Prelude.{◌≢◌, ◌≡◌};
 ghost use Rattle.press_memory.specs.Faults.{Tells};
 
 use crate::answer::{NO_FAULT, NO_MEMORY};
-use press_telling::Teller;
+use press_devices::Teller;
 use press_words::number_in;
 use std::fmt::{Display, InlineText};
 

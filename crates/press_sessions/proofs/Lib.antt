@@ -1,8 +1,4 @@
--- Lemmas on lines, talks, sessions and debuggers.
-mod DebuggerLemmas
-mod DebuggerSteps
+-- Lemmas on sessions.
 mod HappeningLemmas
-mod LineLemmas
 mod SessionLemmas
-mod TalkLemmas
 mod WordLemmas

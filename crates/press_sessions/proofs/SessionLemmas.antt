@@ -16,7 +16,7 @@ use Rattle.press_sink.specs.Outputs.{MadeOutput, with_outputs}
 use Rattle.press_sink.specs.declared.fault.TemplateError.{TemplateError}
 use Rattle.press_sink.specs.declared.fault.TemplateError.TheVariants as template_fault
 use Rattle.press_sink.specs.declared.sheet.Delivery.{Delivery}
-use Rattle.press_telling.specs.Telling.{Ended, Tells, as_line}
+use Rattle.press_devices.specs.Telling.{Ended, Tells, as_line}
 use Rattle.press_words.specs.Words.{SessionAsked}
 use Rattle.press_core.specs.declared.turn.Turn.{Turn as DoneTurn}
 use Rattle.press_core.specs.declared.turn.TurnError.{TurnError}
@@ -27,8 +27,8 @@ use Rattle.press_history.specs.Runs.{Transition, IsAnswered, IsExecution}
 use Rattle.press_theorem.proofs.EventLemmas.{Leads-join}
 use Rattle.press_core.specs.Engines.{are_engines}
 use Rattle.press_core.specs.World.{World, has_engine, new_world}
-use Rattle.press_history.specs.Laws.{NewPressesComeSo}
-use Rattle.press_jobs.specs.declared.jobs.JobFileError.TheVariants as fault
+use Rattle.press_history.specs.RunLaws.{NewPressesComeSo}
+use Rattle.press_files.specs.declared.jobs.JobFileError.TheVariants as fault
 use Rattle.press_sessions.specs.declared.session_error.SessionError.{SessionError}
 use Rattle.press_sessions.specs.declared.session_error.SessionError.TheVariants.{Engines, Template, File, Turn, Output, NoMemory}
 use Rattle.press_files.specs.EntryListing.{entry_listing}
@@ -38,9 +38,9 @@ use Rattle.press_sessions.specs.Sessions.{Inputs, LineDone, NoEvent, Wrong, Happ
 use Rattle.press_sessions.specs.Sessions.{AreLinesOf, HasFault, LineEnds, TakesAsked, TakesLines, IsUnanswered, IsUnread, KeepsDelivered, Rules, is_of_line}
 use Rattle.press_sessions.specs.Sessions.{PlaysToItsEnd, StopsListing, StopsPlaying, Standing, playing}
 use Rattle.press_sessions.specs.Sessions.{AreParts, HasNoPress, HasNoTemplate, NothingBegan, Plays, PlaysBy, Stops, StopsBy, StopsWithin, beginning, by_rules}
-use Rattle.press_sessions.specs.Talking.{Talking, AnswersLines, AnswersAll, AnswersSome, caused, line_by_line}
+use Rattle.press_files.specs.Talking.{Talking, AnswersLines, AnswersAll, AnswersSome, caused, line_by_line}
 use Rattle.press_files.proofs.EntryPagesLemmas.{pages-made}
-use Rattle.press_sessions.proofs.TalkLemmas.{IsSeen, IsSeen-caused, AnswersAll-seen, AnswersSome-seen}
+use Rattle.press_files.proofs.TalkLemmas.{IsSeen, IsSeen-caused, AnswersAll-seen, AnswersSome-seen}
 
 -- the event of this happening has its answer
 abbrev has_answer : Transition → Type 0

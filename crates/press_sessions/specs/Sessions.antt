@@ -15,15 +15,15 @@ use Rattle.press_core.specs.Engines.{are_engines}
 use Rattle.press_core.specs.Events.{Event, Message, TurnOn, Operator, Happens, EventAnswer, Response, Turned, Nothing}
 use Rattle.press_core.specs.Turns.{FaultsAfter}
 use Rattle.press_history.specs.Runs.{Transition, IsAnswered, IsExecution}
-use Rattle.press_history.specs.Laws.{ComesFromNew}
+use Rattle.press_history.specs.RunLaws.{ComesFromNew}
 use Rattle.press_core.specs.World.{World, new_world}
 use Rattle.press_files.specs.Causes.{Failures, InputCause}
 use Rattle.press_files.specs.Change.{Change}
 use Rattle.press_files.specs.EntryPages.{MakesPages, page_lines, pages_behind}
 use Rattle.press_files.specs.PagesKept.{deliveries_of, faults_of}
 use Rattle.press_files.specs.EntryTemplate.{EntryParts, IsEntryTemplate, IsNoEntryTemplate}
-use Rattle.press_jobs.specs.declared.jobs.JobFileError.{JobFileError}
-use Rattle.press_jobs.specs.declared.jobs.JobFileError.TheVariants as fault
+use Rattle.press_files.specs.declared.jobs.JobFileError.{JobFileError}
+use Rattle.press_files.specs.declared.jobs.JobFileError.TheVariants as fault
 use Rattle.press_pbm.specs.declared.fault.ReadPbmError.TheVariants as image_fault
 use Rattle.press_sessions.specs.declared.session.Session.{Session}
 use Rattle.press_sessions.specs.declared.session_error.SessionError.{SessionError}
@@ -32,10 +32,10 @@ use Rattle.press_files.specs.Inputs.{ReadWhole}
 use Rattle.press_files.specs.EntryListing.{entry_listing}
 use Rattle.press_sessions.specs.EventLines.{EventLine, MessageLine, TurnLine, OperatorLine, event_of_line}
 use Rattle.press_sessions.specs.Faults.{told_of_session}
-use Rattle.press_jobs.specs.Jobs.{HaveImages, ImagesRefused}
+use Rattle.press_files.specs.Jobs.{HaveImages, ImagesRefused}
 use Rattle.press_files.specs.NamedInputs.{NamedInput}
 use Rattle.press_files.specs.declared.inputs.InputError.TheVariants as input_fault
-use Rattle.press_sessions.specs.Talking.{Talking, AnswersAll, AnswersSome, caused}
+use Rattle.press_files.specs.Talking.{Talking, AnswersAll, AnswersSome, caused}
 use Rattle.press_words.specs.Words.{SessionAsked}
 
 -- the line of a turn: the entry that took steps, and how many

@@ -1,14 +1,9 @@
-//! Talks, line by line: sessions with a press, and with a debugger.
+//! Sessions with a press, line by line.
 #![tactic(auto)]
 
-mod debugger_lines;
-mod debugging;
 mod event_lines;
-mod line_reader;
 mod session;
 mod session_error;
 mod sessions;
-mod talking;
 
-pub use debugging::debug_lines;
-pub use sessions::{Played, press_lines};
+pub use sessions::press_lines;

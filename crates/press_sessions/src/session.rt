@@ -29,9 +29,9 @@ use crate::session_error::SessionError;
 use press_core::{Press, Turn};
 use press_devices::{WriteDevice, write_flushed};
 use press_files::{
-    EntryFolder, EntryPages, EntryTemplate, NamedInputs, list_delivered, open_named, read_all,
+    EntryFolder, EntryPages, EntryTemplate, NamedInputs, images_named, list_delivered, open_named,
+    read_all,
 };
-use press_jobs::images_named;
 use press_sink::NamedOutputs;
 use press_theorem::{PressEvent, carry_out_events};
 use press_words::{WHAT, line_of, words_of};

@@ -1,10 +1,9 @@
 //! Why sessions with a press end early (this profile).
 use press_core::{BadEngines, TurnError};
-use press_files::InputError;
-use press_jobs::JobFileError;
+use press_devices::NO_OUTPUT;
+use press_files::{InputError, JobFileError};
 use press_pbm::ReadPbmError;
 use press_sink::TemplateError;
-use press_telling::NO_OUTPUT;
 use press_units::ToldFault;
 use std::alloc::AllocError;
 use std::error::Error;
@@ -89,7 +88,7 @@ impl From<TemplateError> for SessionError {
 impl From<InputError> for SessionError {
     ghost use Rattle.std.specs.Prelude.{◌≡◌};
     ghost use Rattle.press_sessions.specs.declared.session_error.SessionError.TheVariants.{File};
-    ghost use Rattle.press_jobs.specs.declared.jobs.JobFileError.TheVariants.{Input};
+    ghost use Rattle.press_files.specs.declared.jobs.JobFileError.TheVariants.{Input};
 
     ghost from_gives = { λ fault error. error ≡ File (Input fault) };
 

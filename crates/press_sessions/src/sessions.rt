@@ -6,6 +6,7 @@ ghost use Rattle.press_files.specs.Change.{change};
 ghost use Rattle.press_files.specs.EntryPages.{parts_in};
 ghost use Rattle.press_files.specs.PagesKept.{faults_of};
 ghost use Rattle.press_files.specs.NamedInputs.{named};
+ghost use Rattle.press_sessions.specs.Ends.{Playing};
 ghost use Rattle.press_sessions.specs.Faults.{told_of_session};
 ghost use Rattle.press_core.specs.Engines.{are_engines};
 ghost use Rattle.press_core.specs.World.{new_world};
@@ -25,31 +26,25 @@ ghost use Rattle.press_sessions.specs.Sessions.{
   standing,
 };
 ghost use Rattle.press_sessions.specs.declared.session_error.SessionError.TheVariants.{NoMemory};
-ghost use Rattle.press_telling.specs.Telling.{Ended};
+ghost use Rattle.press_devices.specs.Telling.{Ended};
 ghost use Rattle.press_words.specs.View.{session_seen};
 
 use crate::session::Session;
 use crate::session_error::SessionError;
-use crate::talking::{Talk, answer_lines};
 use press_core::Press;
-use press_devices::{ReadDevice, WriteDevice};
-use press_files::{EntryFolder, EntryTemplate, NamedInputs};
-use press_history::laws;
+use press_devices::{ReadDevice, Teller, WriteDevice, report};
+use press_files::{
+    Around, Devices, EntryFolder, EntryTemplate, Lent, Loan, NamedInputs, Platform, Talk,
+    answer_lines,
+};
+use press_history::run_laws;
 use press_sink::NamedOutputs;
-use press_telling::{Teller, report};
 use press_words::SessionRequest;
 use std::alloc::Global;
 use std::marker::Brand;
 
-/// How a session ended: the status, and the outputs that it made, which are handed back.
-#[derive(Drop)]
-pub struct Played<O> {
-    pub status: u8,
-    pub outputs: O,
-}
-
 /// Has a session with a press of so many engines that has no entries. Each line of events that a reader has is carried out, and its
-/// answer written to `out`; at the end of the lines stands the listing, a line for each side that was delivered, with its SHA-256 where sums
+/// answer written to standard output; at the end of the lines stands the listing, a line for each side that was delivered, with its SHA-256 where sums
 /// are asked for. The files of a message are opened by their names.
 ///
 /// Where a template is asked for, each side is made a file when it is delivered, a P4 file, whose name is the template with the entry, as
@@ -59,61 +54,33 @@ pub struct Played<O> {
 ///
 /// In whatever order the events come, under the number of an entry in flight the sheets of the steps of its job were delivered. Of a
 /// completed one it is all that its ticket wants, of every other one a prefix of those. An entry delivers only in its turns, while it
-/// runs on an engine of its own, and never again once it was completed or aborted. After a fault, which stands on `err`, no line
-/// is carried out, and nothing is listed. The answer has the status: 0, and nothing waits in `out`, nor of a file that did not before, or 1
-/// after a fault.
-pub fn press_lines<
-    I: NamedInputs,
-    O: NamedOutputs + Drop,
-    R: ReadDevice,
-    W: WriteDevice,
-    E: Teller,
->(
+/// runs on an engine of its own, and never again once it was completed or aborted. After a fault, which stands on standard error, no line
+/// is carried out, and nothing is listed. The answer is the status: 0, and nothing waits in standard output, nor of a file that did not before,
+/// or 1 after a fault.
+pub fn press_lines<R: ReadDevice, P: Platform>(
     alloc: Global,
-    inputs: &I,
-    outputs: O,
     asked: SessionRequest<'_>,
     reader: &mut R,
-    out: &mut W,
-    err: &mut E,
-) -> Played<O>
-    ensures flushed { result.status ≡ 0 → W.waiting out.new ≡ false }
-    ensures through { result.status ≡ 0 → O.waiting result.outputs ≡ O.waiting outputs }
-    ensures unmade { (session_seen asked.entry).template ≡ None
-        → O.made result.outputs ≡ O.made outputs }
-    ensures ended { Ended result.status (E.said err.old) (E.said err.new) told_of_session
-        (Plays (session_seen asked.entry)
-        (named (SomeFails I.Input.failed I.Input.reads) (I.bytes inputs.now) (I.missing inputs.now))
-        (R.remaining reader.old) (R.remaining reader.new)
-        (W.contents out.old) (W.contents out.new)
-        (O.made outputs) (O.made result.outputs))
-        (Stops (session_seen asked.entry)
-        (named (SomeFails I.Input.failed I.Input.reads) (I.bytes inputs.now) (I.missing inputs.now))
-        (failures (ReadFails (R.failed reader.new) (R.reads reader.new))
-        ⊥ (W.failed out.new ≡ true) (O.failed result.outputs ≡ true))
-        (change (R.remaining reader.old) (R.remaining reader.new))
-        (change (W.contents out.old) (W.contents out.new))
-        (change (O.made outputs) (O.made result.outputs))) }
+    devices: &mut Devices<P>,
+) -> u8
+    ensures flushed { result ≡ 0 → P.Out.waiting devices.new.out ≡ false }
+    ensures through { result ≡ 0
+        → P.Outputs.waiting devices.new.outputs ≡ P.Outputs.waiting devices.old.outputs }
+    ensures inputs { devices.new.inputs ≡ devices.old.inputs }
+    ensures ended { ⟦<Devices<P> as Around<R>>⟧.holds_by_inputs (Playing (session_seen asked.entry))
+        result reader.old reader.new devices.old devices.new }
 {
-    laws::new_presses_come_so();
-    match begin(alloc, asked) {
-        Ok(begun) => play_by::<I, O, R, W, E, Brand>(
-            alloc,
-            SessionRules {
-                inputs,
-                goes_on: asked.goes_on,
-            },
-            begun,
-            outputs,
-            reader,
-            out,
-            err,
-        ),
-        Err(error) => Played {
-            status: report(&error, err),
-            outputs,
-        },
-    }
+    let Devices {
+        inputs,
+        outputs,
+        out,
+        err,
+        ..
+    } = devices;
+    let (_, status) = play_lent::<P::Inputs, P::Outputs, R, P::Out, P::Err, Brand>(
+        alloc, inputs, asked, outputs, reader, out, err,
+    );
+    status
 }
 
 /// A press with which a session begins, and what is made of the sheets that it delivers.
@@ -163,7 +130,97 @@ fn template_of(alloc: Global, text: Option<&str>) -> Result<Option<EntryTemplate
     Ok(Some(template))
 }
 
-/// Plays a session with a press. The call's proof says where its sheets go.
+/// Plays a session that is asked for so, whose outputs are lent, and go back, with the status. The call's proof says which they are.
+fn play_lent<
+    'r,
+    I: NamedInputs,
+    O: NamedOutputs,
+    R: ReadDevice,
+    W: WriteDevice,
+    E: Teller,
+    L: Loan,
+>(
+    alloc: Global,
+    inputs: &I,
+    asked: SessionRequest<'_>,
+    outputs: &'r mut O,
+    reader: &mut R,
+    out: &mut W,
+    err: &mut E,
+) -> (&'r mut O, u8)
+    requires name { outputs.ghost_name ≡ L.name }
+    ensures same { result.0.ghost_name ≡ outputs.entry.ghost_name }
+    ensures flushed { result.1 ≡ 0 → W.waiting out.new ≡ false }
+    ensures through { result.1 ≡ 0 → O.waiting result.0.now ≡ O.waiting outputs.old }
+    ensures unmade { (session_seen asked.entry).template ≡ None
+        → O.made result.0.now ≡ O.made outputs.old }
+    ensures ended { Ended result.1 (E.said err.old) (E.said err.new) told_of_session
+        (Plays (session_seen asked.entry)
+        (named (SomeFails I.Input.failed I.Input.reads) (I.bytes inputs.now) (I.missing inputs.now))
+        (R.remaining reader.old) (R.remaining reader.new)
+        (W.contents out.old) (W.contents out.new)
+        (O.made outputs.old) (O.made result.0.now))
+        (Stops (session_seen asked.entry)
+        (named (SomeFails I.Input.failed I.Input.reads) (I.bytes inputs.now) (I.missing inputs.now))
+        (failures (ReadFails (R.failed reader.new) (R.reads reader.new))
+        ⊥ (W.failed out.new ≡ true) (O.failed result.0.now ≡ true))
+        (change (R.remaining reader.old) (R.remaining reader.new))
+        (change (W.contents out.old) (W.contents out.new))
+        (change (O.made outputs.old) (O.made result.0.now))) }
+{
+    let lent: Lent<'r, O, L> = Lent::new(outputs);
+    let (outputs, status) = play_asked::<I, Lent<'r, O, L>, R, W, E>(
+        alloc, inputs, asked, lent, reader, out, err,
+    );
+    (outputs.into_inner(), status)
+}
+
+/// Plays a session that is asked for so: where its outputs were made, and the status.
+fn play_asked<I: NamedInputs, O: NamedOutputs + Drop, R: ReadDevice, W: WriteDevice, E: Teller>(
+    alloc: Global,
+    inputs: &I,
+    asked: SessionRequest<'_>,
+    outputs: O,
+    reader: &mut R,
+    out: &mut W,
+    err: &mut E,
+) -> (O, u8)
+    ensures flushed { result.1 ≡ 0 → W.waiting out.new ≡ false }
+    ensures through { result.1 ≡ 0 → O.waiting result.0 ≡ O.waiting outputs }
+    ensures unmade { (session_seen asked.entry).template ≡ None → O.made result.0 ≡ O.made outputs }
+    ensures ended { Ended result.1 (E.said err.old) (E.said err.new) told_of_session
+        (Plays (session_seen asked.entry)
+        (named (SomeFails I.Input.failed I.Input.reads) (I.bytes inputs.now) (I.missing inputs.now))
+        (R.remaining reader.old) (R.remaining reader.new)
+        (W.contents out.old) (W.contents out.new)
+        (O.made outputs) (O.made result.0))
+        (Stops (session_seen asked.entry)
+        (named (SomeFails I.Input.failed I.Input.reads) (I.bytes inputs.now) (I.missing inputs.now))
+        (failures (ReadFails (R.failed reader.new) (R.reads reader.new))
+        ⊥ (W.failed out.new ≡ true) (O.failed result.0 ≡ true))
+        (change (R.remaining reader.old) (R.remaining reader.new))
+        (change (W.contents out.old) (W.contents out.new))
+        (change (O.made outputs) (O.made result.0))) }
+{
+    run_laws::new_presses_come_so();
+    match begin(alloc, asked) {
+        Ok(begun) => play_by::<I, O, R, W, E, Brand>(
+            alloc,
+            SessionRules {
+                inputs,
+                goes_on: asked.goes_on,
+            },
+            begun,
+            outputs,
+            reader,
+            out,
+            err,
+        ),
+        Err(error) => (outputs, report(&error, err)),
+    }
+}
+
+/// Plays a session with a press: where its outputs were made, and the status. The call's proof says where its sheets go.
 fn play_by<
     I: NamedInputs,
     O: NamedOutputs + Drop,
@@ -179,15 +236,15 @@ fn play_by<
     reader: &mut R,
     out: &mut W,
     err: &mut E,
-) -> Played<O>
+) -> (O, u8)
     requires parts { parts_in begun.template ≡ D.parts }
     requires made { O.made outputs ≡ D.begun }
     requires waits { O.waiting outputs ≡ D.waits }
     requires sums { begun.sums ≡ D.sums }
-    ensures flushed { result.status ≡ 0 → W.waiting out.new ≡ false }
-    ensures through { result.status ≡ 0 → O.waiting result.outputs ≡ D.waits }
-    ensures unmade { D.parts ≡ None → O.made result.outputs ≡ D.begun }
-    ensures ended { Ended result.status (E.said err.old) (E.said err.new) told_of_session
+    ensures flushed { result.1 ≡ 0 → W.waiting out.new ≡ false }
+    ensures through { result.1 ≡ 0 → O.waiting result.0 ≡ D.waits }
+    ensures unmade { D.parts ≡ None → O.made result.0 ≡ D.begun }
+    ensures ended { Ended result.1 (E.said err.old) (E.said err.new) told_of_session
         (PlaysBy (by_rules
         (named (SomeFails I.Input.failed I.Input.reads)
         (I.bytes rules.entry.inputs.now) (I.missing rules.entry.inputs.now))
@@ -195,17 +252,17 @@ fn play_by<
         D.sums (beginning begun.press)
         (R.remaining reader.old) (R.remaining reader.new)
         (W.contents out.old) (W.contents out.new)
-        D.begun (O.made result.outputs))
+        D.begun (O.made result.0))
         (StopsBy (by_rules
         (named (SomeFails I.Input.failed I.Input.reads)
         (I.bytes rules.entry.inputs.now) (I.missing rules.entry.inputs.now))
         rules.entry.goes_on D.parts)
         D.sums (failures (ReadFails (R.failed reader.new) (R.reads reader.new))
-        ⊥ (W.failed out.new ≡ true) (O.failed result.outputs ≡ true))
+        ⊥ (W.failed out.new ≡ true) (O.failed result.0 ≡ true))
         (beginning begun.press)
         (change (R.remaining reader.old) (R.remaining reader.new))
         (change (W.contents out.old) (W.contents out.new))
-        (change D.begun (O.made result.outputs))) }
+        (change D.begun (O.made result.0))) }
 {
     let session = Session::new(alloc, begun.press, outputs, begun.template, begun.sums);
     let mut talk: SessionTalk<I, O, D> = SessionTalk {
@@ -214,10 +271,7 @@ fn play_by<
         session,
     };
     let status = play_told(alloc, &mut talk, reader, out, err);
-    Played {
-        status,
-        outputs: talk.session.into_outputs(),
-    }
+    (talk.session.into_outputs(), status)
 }
 
 /// Plays a session, and tells why it stopped, where it did: the status.

@@ -1,12 +1,11 @@
 -- The texts of defaults, and their lines one after another.
-use Rattle.std.proofs.Common.{◌≡◌, ◌∙◌, ◌<◌, ◌+◌, ◌==◌, ℕ, Bool, true, false, List, [], ◌∷◌, ◌++◌, Bor, Option, Some, codes, length, take, get_or, map, refl, sym, ap, subst, arith}
-use Rattle.std.specs.Fmt.{option_append}
+use Rattle.std.proofs.Common.{◌≡◌, ◌∙◌, ◌<◌, ◌+◌, ◌==◌, ℕ, Bool, true, false, List, [], ◌∷◌, ◌++◌, Bor, codes, length, take, get_or, map, refl, sym, ap, subst}
 use Rattle.std.specs.List.{flat_map, list_all}
-use Rattle.std.proofs.lemmas.Bool.{eqb-true, true≢false}
+use Rattle.std.proofs.lemmas.Bool.{true≢false}
 use Rattle.std.proofs.lemmas.List.{flat_map_more, map-append, take_more}
 use Rattle.std.proofs.lemmas.List.Folds.{list_all-map, list_all_at, list_all_more}
 use Rattle.press_pjl.specs.Variables.{is_assignment}
-use Rattle.press_words.specs.Defaults.{HoldsBehind, default_line, prefix_of, with_prefix}
+use Rattle.press_words.specs.Defaults.{default_line, prefix_of}
 
 -- the texts of words
 abbrev texts_of : List (Bor (List ℕ)) → List (List ℕ)
@@ -49,18 +48,3 @@ pub prefix_of-some : (words : List (Bor (List ℕ))) (lines prefix : List ℕ) �
     → prefix ≡ lines ++ (codes "@PJL RESET" ++ 10 ∷ []) → prefix ≡ prefix_of (map (λ word. word.now) words)
 prefix_of-some [] lines prefix some are is = absurd (true≢false some)
 prefix_of-some (word ∷ words) lines prefix some are is = is ∙ ap (λ (bytes : List ℕ). bytes ++ (codes "@PJL RESET" ++ 10 ∷ [])) are
-
--- no bytes in front, or some
-pub with_prefix-none : (prefix : List ℕ) (had : Option (List ℕ)) → (length prefix == 0) ≡ true → with_prefix prefix had ≡ had
-with_prefix-none [] had none = refl
-with_prefix-none (byte ∷ bytes) had none = let zero = eqb-true (length (byte ∷ bytes)) 0 none in absurd (omega (arith, zero))
-
-pub with_prefix-some : (prefix : List ℕ) (had : Option (List ℕ)) → (length prefix == 0) ≡ false → with_prefix prefix had ≡ option_append (Some prefix) had
-with_prefix-some [] had some = absurd (true≢false some)
-with_prefix-some (byte ∷ bytes) had some = refl
-
--- what holds of the bytes in front and what a reader has behind them
-pub holds-behind : (prefix : List ℕ) (had left rest : Option (List ℕ)) (Holds : Option (List ℕ) → Option (List ℕ) → Type 0)
-    → (length prefix == 0) ≡ false → Holds (option_append (Some prefix) had) rest → HoldsBehind prefix had left Holds
-holds-behind [] had left rest Holds some holds = absurd (true≢false some)
-holds-behind (byte ∷ bytes) had left rest Holds some holds = (rest, holds)

@@ -11,7 +11,7 @@ use Rattle.press_words.specs.declared.words.Output.TheVariants as outputs
 use Rattle.press_words.specs.declared.words.Request.{Request}
 use Rattle.press_words.specs.declared.words.Refusal.{Refusal}
 use Rattle.press_words.specs.declared.words.Refusal.TheVariants.{Words, NoName, NoDefault}
-use Rattle.press_words.specs.Words.{Source, Standard, FileNamed, Made, Listed, SummedOf, FilesBy, SessionAsked, Answered, AsText, DebuggedOf, TracedOf, RunsOf, PageTo, StreamTo, JobTo, Arguments, press_app}
+use Rattle.press_words.specs.Words.{Source, Standard, FileNamed, Made, Listed, SummedOf, FilesBy, SessionAsked, Answered, AsText, DebuggedOf, TracedOf, RunsOf, PageTo, StreamTo, JobTo, TablesTold, Arguments, press_app}
 
 -- an input by the text of its name
 abbrev pub source_seen : Input → Source
@@ -40,6 +40,7 @@ made_seen (outputs.Runs prefix) = RunsOf prefix.items
 made_seen (outputs.Page prefix steps name) = PageTo prefix.items steps name.now
 made_seen (outputs.Assembled name) = StreamTo name.now
 made_seen (outputs.Job name images) = JobTo name.now (map (λ image. image.now) images.items)
+made_seen outputs.Tables = TablesTold
 
 -- a request by its texts
 abbrev pub request_seen : Request → Arguments

@@ -1,14 +1,14 @@
 -- What the words of the command line ask for.
 use Rattle.std.specs.Prelude.{ℕ, List, [], ◌∷◌, Option, Some, None, Bool, true, false, codes, option_map, option_and_then, unwrap_or, if◌then◌else◌}
-use Rattle.std.specs.List.{list_all}
+use Rattle.std.specs.List.{find, list_all}
 use Rattle.std.specs.Option.{option_map_or}
 use Rattle.std.specs.Str.{bytes_eq}
 use Rattle.clap.specs.Words.{App, Row, Rule, Text, new_app, new_rule, with_rule, with_subcommand, subcommand_of, first_of, all_of, fault_of}
 use Rattle.press_pjl.specs.Variables.{is_assignment}
 use Rattle.press_words.specs.Defaults.{prefix_of}
 use Rattle.press_words.specs.Lines.{number_word}
-use Rattle.press_words.specs.declared.words.Subcommand.{Subcommand}
-use Rattle.press_words.specs.declared.words.Subcommand.TheVariants.{Print, Asm, Disasm, Debug, Trace, Page, Write, Press}
+use Rattle.press_words.specs.declared.subcommands.Subcommand.{Subcommand}
+use Rattle.press_words.specs.declared.subcommands.Subcommand.TheVariants.{Print, Asm, Disasm, Debug, Trace, Page, Write, Press, Tables}
 use Rattle.clap.specs.declared.builder.action.ArgAction.TheVariants.{Append, SetTrue}
 
 -- Where an input is read: from standard input, or from the file of this name.
@@ -29,7 +29,7 @@ pub record SessionAsked : Type 0 where
 -- the trace of a stream. RunsOf: the same, with a line for each run of steps that do no more than count. PageTo: the file of this name, of the page that is open behind so many steps of a stream. DebuggedOf: a
 -- debugger's answers to lines, over the stream of this file. Answered: the answers of a press that is asked for so to lines of events, the
 -- files of the sides that it delivers, where they are asked for, and their listing. StreamTo: the file of this name, of an assembly text. JobTo: the file of this name, the job of a
--- ticket with the images of these files.
+-- ticket with the images of these files. TablesTold: the program's own tables, of no input.
 pub data Made : Type 0 where
   Listed : (prefix : List ℕ) → Made
   SummedOf : (prefix : List ℕ) → Made
@@ -42,6 +42,7 @@ pub data Made : Type 0 where
   PageTo : (prefix : List ℕ) (steps : ℕ) (name : Text) → Made
   StreamTo : Text → Made
   JobTo : (name : Text) (images : List Text) → Made
+  TablesTold : Made
 
 -- What the program is asked to do.
 pub record Arguments : Type 0 where
@@ -113,15 +114,13 @@ playing_app = with_rule (with_rule (new_app (codes "press")) engines_rule) pages
 abbrev pub session_app : App
 session_app = with_rule (with_rule playing_app sums_rule) keep_going_rule
 
+-- `tables` has no words.
+abbrev pub tables_app : App
+tables_app = new_app (codes "tables")
+
 -- The program without its subcommands: it has a version.
 abbrev pub program_app : App
 program_app = record { top = record (new_app (codes "press")).top { has_version = true }; subs = [] }
-
--- The command line: the subcommands of the program.
-abbrev pub press_app : App
-press_app =
-    with_subcommand (with_subcommand (with_subcommand (with_subcommand (with_subcommand (with_subcommand (with_subcommand (with_subcommand
-    program_app print_app.top) asm_app.top) disasm_app.top) debug_app.top) trace_app.top) page_app.top) write_app.top) session_app.top
 
 -- a flag is set where its value is `true`
 abbrev pub is_set : Text → List Row → Bool
@@ -221,33 +220,59 @@ session_of rows =
 abbrev pub session_arguments : List Row → Option Arguments
 session_arguments rows = option_map (λ session. record { source = Standard; made = Answered session }) (session_of rows)
 
--- the subcommand of a name
+-- what `tables` asks for: nothing is read
+abbrev pub tables_arguments : List Row → Option Arguments
+tables_arguments rows = Some (record { source = Standard; made = TablesTold })
+
+-- A line of the table of subcommands: its words, its line of help, and what the values of its words ask for.
+pub record Usage : Type 0 where
+  pub words : App
+  pub about : Text
+  pub asks : List Row → Option Arguments
+
+abbrev pub usage : (words : App) (about : Text) (asks : List Row → Option Arguments) → Usage
+usage words about asks = record { words = words; about = about; asks = asks }
+
+-- The table of subcommands.
+abbrev pub subcommands : List Subcommand
+subcommands = Print ∷ Asm ∷ Disasm ∷ Debug ∷ Trace ∷ Page ∷ Write ∷ Press ∷ Tables ∷ []
+
+abbrev pub usage_of : Subcommand → Usage
+usage_of Print =
+    usage print_app (codes "Prints a stream to a P4 file (raw PBM) for each side, or lists its sheets") print_arguments
+usage_of Asm = usage asm_app (codes "Makes a print stream from assembly text, a line for each command") asm_arguments
+usage_of Disasm =
+    usage disasm_app (codes "Writes a stream as assembly text, a line for each command, to standard output") disasm_arguments
+usage_of Debug = usage debug_app (codes "Steps through a stream, as the lines on standard input ask") debug_arguments
+usage_of Trace = usage trace_app (codes "Tells what a stream does, step by step, in a line of JSON for each") trace_arguments
+usage_of Page =
+    usage page_app (codes "Makes a P4 file (raw PBM) of the page that is open behind so many steps of a stream") page_arguments
+usage_of Write = usage write_app (codes "Makes a print stream from a job ticket and the images of its pages") job_arguments
+usage_of Press =
+    usage session_app (codes "Plays a session with a press that has a queue, by the lines on standard input") session_arguments
+usage_of Tables = usage tables_app (codes "Writes what the program has tables of, as JSON: a row in a line") tables_arguments
+
+-- the name of a subcommand, and the subcommand of a name
+abbrev pub name_of : Subcommand → Text
+name_of subcommand = (usage_of subcommand).words.top.name
+
 abbrev pub subcommand_named : Text → Option Subcommand
-subcommand_named name =
-    if bytes_eq name (codes "print") then Some Print
-    else if bytes_eq name (codes "asm") then Some Asm
-    else if bytes_eq name (codes "disasm") then Some Disasm
-    else if bytes_eq name (codes "debug") then Some Debug
-    else if bytes_eq name (codes "trace") then Some Trace
-    else if bytes_eq name (codes "page") then Some Page
-    else if bytes_eq name (codes "write") then Some Write
-    else if bytes_eq name (codes "press") then Some Press
-    else None
+subcommand_named name = find (λ subcommand. bytes_eq name (name_of subcommand)) subcommands
 
--- what the values of the words of a subcommand ask for
+-- what the values of the words of a subcommand ask for, and of that of a name
 abbrev pub arguments_of : Subcommand → List Row → Option Arguments
-arguments_of Print rows = print_arguments rows
-arguments_of Asm rows = asm_arguments rows
-arguments_of Disasm rows = disasm_arguments rows
-arguments_of Debug rows = debug_arguments rows
-arguments_of Trace rows = trace_arguments rows
-arguments_of Page rows = page_arguments rows
-arguments_of Write rows = job_arguments rows
-arguments_of Press rows = session_arguments rows
+arguments_of subcommand = (usage_of subcommand).asks
 
--- the same by its name
 abbrev pub arguments_by : Text → List Row → Option Arguments
 arguments_by name rows = option_and_then (λ subcommand. arguments_of subcommand rows) (subcommand_named name)
+
+-- The command line: the program with the words of each line of the table.
+abbrev pub with_subcommands : App → List Subcommand → App
+with_subcommands app [] = app
+with_subcommands app (one ∷ more) = with_subcommands (with_subcommand app (usage_of one).words.top) more
+
+abbrev pub press_app : App
+press_app = with_subcommands program_app subcommands
 
 -- what words ask for in which the command line finds these faults
 abbrev pub arguments_without : {K : Type 0} → List K → List Text → Option Arguments

@@ -5,6 +5,7 @@
 mod defaults;
 mod lines;
 mod session_words;
+mod subcommands;
 mod told_words;
 mod words;
 

@@ -6,6 +6,7 @@ ghost use Rattle.press_words.specs.Words.{engines_of, engines_rule, keep_going_r
 ghost use Rattle.press_words.specs.View.{session_seen};
 
 use crate::lines::number_word;
+use crate::subcommands::{Subcommand, bare_command};
 use crate::words::{has_flag, sums_flag};
 use clap::{Arg, ArgAction, ArgMatches, Command};
 use std::alloc::{AllocError, Global};
@@ -68,8 +69,7 @@ fn playing_command<'a>(alloc: Global) -> Result<Command<'a>, AllocError>
     ensures app { IfOk result (λ command. app_of command ≡ playing_app) }
     ensures local { IfOk result (λ command. (out-Command command).has_globals ≡ false) }
 {
-    Command::new(alloc, "press")
-        .about("Plays a session with a press that has a queue, by the lines on standard input")
+    bare_command(alloc, Subcommand::Press)
         .after_help(SESSION_HELP)
         .arg(engines_option(alloc))?
         .arg(pages_option(alloc))

@@ -3,12 +3,13 @@ ghost use Rattle.std.specs.Prelude.{◌≡◌, ◌≢◌, ◌⊎◌, IfOk, IfErr
 ghost use Rattle.clap.specs.Words.{app_of, rule_of, new_app, new_rule, with_rule, kind_of, rows_of, found_of, subcommand_of, subcommand_rows_of, fault_of, FailsBy};
 ghost use Rattle.clap.specs.declared.builder.command.Command.TheViews.{out-Command};
 ghost use Rattle.clap.specs.declared.error.kind.ErrorKind.TheVariants.{OutOfMemory};
-ghost use Rattle.press_words.specs.Words.{list_rule, sums_rule, runs_rule, default_rule, needed_rule, images_rule, print_app, asm_app, disasm_app, debug_app, trace_app, page_app, write_app, session_app, program_app, press_app, source_of, made_behind, made_of, made_named, made_in, images_of, defaults_of, prefix_in, print_arguments, asm_arguments, disasm_arguments, debug_of, debug_arguments, traced_as, trace_arguments, steps_in, page_to, page_arguments, job_arguments, session_arguments, subcommand_named, arguments_of, arguments_by, arguments, is_set};
+ghost use Rattle.press_words.specs.Words.{list_rule, sums_rule, runs_rule, default_rule, needed_rule, images_rule, print_app, asm_app, disasm_app, debug_app, trace_app, page_app, write_app, program_app, press_app, Standard, TablesTold, usage_of, source_of, made_behind, made_of, made_named, made_in, images_of, defaults_of, prefix_in, print_arguments, asm_arguments, disasm_arguments, debug_of, debug_arguments, traced_as, trace_arguments, steps_in, page_to, page_arguments, job_arguments, session_arguments, arguments_of, arguments_by, arguments, is_set};
 ghost use Rattle.press_words.specs.View.{AsksHelp, source_seen, made_seen, request_seen, status_of, IsForMemory};
 
 use crate::defaults::{are_assignments, prefix_of};
 use crate::lines::number_word;
 use crate::session_words::{SessionRequest, press_command, session_of};
+use crate::subcommands::{SUBCOMMANDS, Subcommand, bare_command, subcommand_named};
 use crate::told_words::{has_controls, told_word, told_words};
 use clap::error::ErrorKind;
 use clap::{Arg, ArgAction, ArgMatches, Command, Error};
@@ -40,6 +41,7 @@ const AFTER_HELP: &str = "Examples:
   press press < events.txt
   press press --engines 2 < events.txt
   press press --out page-%q-%d.pbm --sums < events.txt
+  press tables
 
 A fault is told in one line on standard error. What each means, and what to do:
   fault 111, 113        an image is no P4 file (raw PBM), or its end is missing: make it again
@@ -99,6 +101,8 @@ pub enum Output<'a> {
     Assembled(&'a str),
     /// The file of this name, of the job of a ticket with the images of these files.
     Job(&'a str, Vec<&'a str>),
+    /// The program's own tables.
+    Tables,
 }
 
 /// What the program is asked to do.
@@ -240,8 +244,7 @@ fn flagged_command<'a>(alloc: Global) -> Result<Command<'a>, AllocError>
         ≡ with_rule (with_rule (new_app (codes "print")) list_rule) sums_rule) }
     ensures local { IfOk result (λ command. (out-Command command).has_globals ≡ false) }
 {
-    Command::new(alloc, "print")
-        .about("Prints a stream to a P4 file (raw PBM) for each side, or lists its sheets")
+    bare_command(alloc, Subcommand::Print)
         .arg(list_flag(alloc))?
         .arg(sums_flag(alloc))
 }
@@ -266,8 +269,7 @@ fn asm_command<'a>(alloc: Global) -> Result<Command<'a>, AllocError>
     ensures app { IfOk result (λ command. app_of command ≡ asm_app) }
     ensures local { IfOk result (λ command. (out-Command command).has_globals ≡ false) }
 {
-    Command::new(alloc, "asm")
-        .about("Makes a print stream from assembly text, a line for each command")
+    bare_command(alloc, Subcommand::Asm)
         .arg(needed_word(
             alloc,
             "IN",
@@ -285,13 +287,11 @@ fn disasm_command<'a>(alloc: Global) -> Result<Command<'a>, AllocError>
     ensures app { IfOk result (λ command. app_of command ≡ disasm_app) }
     ensures local { IfOk result (λ command. (out-Command command).has_globals ≡ false) }
 {
-    Command::new(alloc, "disasm")
-        .about("Writes a stream as assembly text, a line for each command, to standard output")
-        .arg(needed_word(
-            alloc,
-            "IN",
-            "The file of the stream, or - for standard input",
-        ))
+    bare_command(alloc, Subcommand::Disasm).arg(needed_word(
+        alloc,
+        "IN",
+        "The file of the stream, or - for standard input",
+    ))
 }
 
 /// The subcommand `debug`.
@@ -299,8 +299,7 @@ fn debug_command<'a>(alloc: Global) -> Result<Command<'a>, AllocError>
     ensures app { IfOk result (λ command. app_of command ≡ debug_app) }
     ensures local { IfOk result (λ command. (out-Command command).has_globals ≡ false) }
 {
-    Command::new(alloc, "debug")
-        .about("Steps through a stream, as the lines on standard input ask")
+    bare_command(alloc, Subcommand::Debug)
         .after_help(DEBUGGER_HELP)
         .arg(default_option(alloc))?
         .arg(needed_word(
@@ -315,8 +314,7 @@ fn trace_command<'a>(alloc: Global) -> Result<Command<'a>, AllocError>
     ensures app { IfOk result (λ command. app_of command ≡ trace_app) }
     ensures local { IfOk result (λ command. (out-Command command).has_globals ≡ false) }
 {
-    Command::new(alloc, "trace")
-        .about("Tells what a stream does, step by step, in a line of JSON for each")
+    bare_command(alloc, Subcommand::Trace)
         .arg(runs_flag(alloc))?
         .arg(default_option(alloc))?
         .arg(needed_word(
@@ -331,10 +329,7 @@ fn page_command<'a>(alloc: Global) -> Result<Command<'a>, AllocError>
     ensures app { IfOk result (λ command. app_of command ≡ page_app) }
     ensures local { IfOk result (λ command. (out-Command command).has_globals ≡ false) }
 {
-    Command::new(alloc, "page")
-        .about(
-            "Makes a P4 file (raw PBM) of the page that is open behind so many steps of a stream",
-        )
+    bare_command(alloc, Subcommand::Page)
         .arg(default_option(alloc))?
         .arg(needed_word(
             alloc,
@@ -368,8 +363,7 @@ fn write_command<'a>(alloc: Global) -> Result<Command<'a>, AllocError>
     ensures app { IfOk result (λ command. app_of command ≡ write_app) }
     ensures local { IfOk result (λ command. (out-Command command).has_globals ≡ false) }
 {
-    Command::new(alloc, "write")
-        .about("Makes a print stream from a job ticket and the images of its pages")
+    bare_command(alloc, Subcommand::Write)
         .arg(needed_word(alloc, "TICKET", "The file of the job ticket, in JSON"))?
         .arg(needed_word(
             alloc,
@@ -377,6 +371,24 @@ fn write_command<'a>(alloc: Global) -> Result<Command<'a>, AllocError>
             "The file of the stream, which is made or replaced; - is refused",
         ))?
         .arg(images_word(alloc))
+}
+
+/// A subcommand with its words: a row for each.
+fn command_of<'a>(alloc: Global, subcommand: Subcommand) -> Result<Command<'a>, AllocError>
+    ensures app { IfOk result (λ command. app_of command ≡ (usage_of subcommand).words) }
+    ensures local { IfOk result (λ command. (out-Command command).has_globals ≡ false) }
+{
+    match subcommand {
+        Subcommand::Print => print_command(alloc),
+        Subcommand::Asm => asm_command(alloc),
+        Subcommand::Disasm => disasm_command(alloc),
+        Subcommand::Debug => debug_command(alloc),
+        Subcommand::Trace => trace_command(alloc),
+        Subcommand::Page => page_command(alloc),
+        Subcommand::Write => write_command(alloc),
+        Subcommand::Press => press_command(alloc),
+        Subcommand::Tables => Ok(bare_command(alloc, subcommand)),
+    }
 }
 
 /// The program, with its help, its version and no subcommand.
@@ -396,15 +408,11 @@ fn program<'a>(alloc: Global) -> Command<'a>
 fn command<'a>(alloc: Global) -> Result<Command<'a>, AllocError>
     ensures { IfOk result (λ command. app_of command ≡ press_app) }
 {
-    program(alloc)
-        .subcommand(print_command(alloc)?)?
-        .subcommand(asm_command(alloc)?)?
-        .subcommand(disasm_command(alloc)?)?
-        .subcommand(debug_command(alloc)?)?
-        .subcommand(trace_command(alloc)?)?
-        .subcommand(page_command(alloc)?)?
-        .subcommand(write_command(alloc)?)?
-        .subcommand(press_command(alloc)?)
+    let mut command = program(alloc);
+    for subcommand in &SUBCOMMANDS {
+        command = command.subcommand(command_of(alloc, *subcommand)?)?;
+    }
+    Ok(command)
 }
 
 /// The matches of words, the program's name among them.
@@ -700,41 +708,13 @@ fn session_request<'a>(matches: &ArgMatches<'a>) -> Option<Request<'a>>
     })
 }
 
-/// A subcommand.
-#[derive(Clone, Copy)]
-enum Subcommand {
-    Print,
-    Asm,
-    Disasm,
-    Debug,
-    Trace,
-    Page,
-    Write,
-    Press,
-}
-
-/// The subcommand of this name.
-fn subcommand_named(name: &str) -> Option<Subcommand>
-    ensures { result ≡ subcommand_named name.now }
+/// What `tables` asks for. Nothing is read.
+fn tables_request<'a>() -> Request<'a>
+    ensures { request_seen result ≡ record { source = Standard; made = TablesTold } }
 {
-    if name == "print" {
-        Some(Subcommand::Print)
-    } else if name == "asm" {
-        Some(Subcommand::Asm)
-    } else if name == "disasm" {
-        Some(Subcommand::Disasm)
-    } else if name == "debug" {
-        Some(Subcommand::Debug)
-    } else if name == "trace" {
-        Some(Subcommand::Trace)
-    } else if name == "page" {
-        Some(Subcommand::Page)
-    } else if name == "write" {
-        Some(Subcommand::Write)
-    } else if name == "press" {
-        Some(Subcommand::Press)
-    } else {
-        None
+    Request {
+        input: Input::Standard,
+        output: Output::Tables,
     }
 }
 
@@ -756,6 +736,7 @@ fn subcommand_request<'a>(
         Subcommand::Page => page_request(alloc, matches),
         Subcommand::Write => job_request(alloc, matches),
         Subcommand::Press => Ok(session_request(matches)),
+        Subcommand::Tables => Ok(Some(tables_request())),
     }
 }
 

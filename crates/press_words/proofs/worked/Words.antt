@@ -1,7 +1,7 @@
 -- What some words ask for.
 use Rattle.std.specs.Prelude.{◌≡◌, [], ◌∷◌, Some, None, codes, false, refl, true}
 use Rattle.clap.proofs.OnLiterals.{clap_on_literals}
-use Rattle.press_words.specs.Words.{Standard, FileNamed, Listed, SummedOf, FilesBy, Answered, AsText, DebuggedOf, TracedOf, PageTo, StreamTo, JobTo, arguments}
+use Rattle.press_words.specs.Words.{Standard, FileNamed, Listed, SummedOf, FilesBy, Answered, AsText, DebuggedOf, TracedOf, PageTo, StreamTo, JobTo, TablesTold, arguments}
 
 nothing : arguments (codes "press" ∷ []) ≡ Some (record { source = Standard; made = Listed [] })
 nothing = refl
@@ -84,6 +84,15 @@ writing_to_a_dash = refl
 no_output : arguments (codes "press" ∷ codes "asm" ∷ codes "a" ∷ []) ≡ None
 unfolding clap_on_literals
 no_output = refl
+
+tables : arguments (codes "press" ∷ codes "tables" ∷ []) ≡ Some (record { source = Standard; made = TablesTold })
+unfolding clap_on_literals
+tables = refl
+
+-- which has no word
+tables_of_a_word : arguments (codes "press" ∷ codes "tables" ∷ codes "a.pcl" ∷ []) ≡ None
+unfolding clap_on_literals
+tables_of_a_word = refl
 
 disassembling : arguments (codes "press" ∷ codes "disasm" ∷ codes "-" ∷ []) ≡ Some (record { source = Standard; made = AsText })
 unfolding clap_on_literals

@@ -8,6 +8,7 @@ returns-then-taken-steps-clause-pages g c =
     record {
       done = λ _. (made.0, tells_end c.args.steps made.0.1.items c.in-Ok.taken _ _ made.1 c.if-taken-steps.true c.tell.ensures);
       stops = λ fails. absurd (fails refl);
+      unwritten = refl;
     }
 
 pub returns-else-taken-steps-clause-pages : goal.returns-else-taken-steps-clause-pages
@@ -16,4 +17,5 @@ returns-else-taken-steps-clause-pages g c =
     record {
       done = λ _. (made.0, tells_no_end c.args.steps made.0.1.items c.in-Ok.taken _ made.1 c.if-taken-steps.false);
       stops = λ fails. absurd (fails refl);
+      unwritten = refl;
     }

@@ -2,7 +2,7 @@ use Rattle.std.proofs.Common.{◌≡◌, true}
 use Rattle.press_units.proofs.ExitLemmas.{exit-is}
 use Rattle.press_devices.specs.Reading.{ReadFails}
 use Rattle.press_files.specs.Causes.{failures}
-use Rattle.press_jobs.proofs.JobLemmas.{images-cause}
+use Rattle.press_files.proofs.JobLemmas.{images-cause}
 use Rattle.press_main.proofs.making.make_ticket.Goals as goal
 
 pub returns-in_err-images-clause-cause : goal.returns-in_err-images-clause-cause

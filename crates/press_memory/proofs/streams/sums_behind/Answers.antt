@@ -1,11 +1,16 @@
-use Rattle.std.proofs.Common.{◌∙◌, Some, true, ap, sym}
-use Rattle.press_memory.proofs.WrittenLemmas.{listed-by}
+use Rattle.std.proofs.Common.{Some, ap, sym}
+use Rattle.press_memory.proofs.Edges.{first, last}
 use Rattle.press_memory.proofs.streams.sums_behind.Goals as goal
 
 pub returns : goal.returns
 returns c =
-    listed-by true c.args.prefix.now c.args.stream.now c.into_inner.result.items _ _ _ _ _ _ _ _ c.fault_after.result
-    (ap (λ device. Some device.now) c.new-reader.ensures.device)
-    (ap (λ device. Some device.items) c.new-out.ensures.device ∙ ap Some c.new.ensures.items)
-    (ap (λ device. Some device.items) (sym c.into_inner.ensures))
-    c.fault_after.ensures c.print_sums-listed.ensures.printed
+    record {
+      status = c.print_sums-status.result;
+      before = first _ _ _ _;
+      after = last _ _ _ _ _ _ _ _;
+      had = ap (λ device. Some device.now) c.new-reader.ensures.device;
+      empty = ap Some c.in_memory-devices.ensures.out;
+      wrote = ap (λ device. Some device.items) (sym c.into_inner.ensures);
+      ends = c.fault_after.ensures;
+      holds = c.print_sums-status.ensures.printed;
+    }

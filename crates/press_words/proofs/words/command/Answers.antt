@@ -1,27 +1,22 @@
-use Rattle.std.proofs.lemmas.Result.{IfOk-weaker}
-use Rattle.clap.specs.Words.{with_subcommand}
-use Rattle.press_words.specs.Words.{program_app, print_app, asm_app, disasm_app, debug_app, trace_app, page_app, write_app, session_app}
+use Rattle.std.proofs.Common.{◌∙◌, ◌+◌, refl, sym, ap, drop, arith}
+use Rattle.std.proofs.lemmas.List.{at_drop_more, at_drop_all}
+use Rattle.clap.specs.Words.{app_of}
+use Rattle.press_words.specs.Words.{subcommands, with_subcommands}
+use Rattle.press_words.specs.declared.subcommands.Subcommand.TheVariants.{Print}
 use Rattle.press_words.proofs.WordsLemmas.{subcommand_added}
 use Rattle.press_words.proofs.words.command.Goals as goal
 
+pub loop-subcommand-init : goal.loop-subcommand-init
+loop-subcommand-init c = ap (λ app. with_subcommands app subcommands) c.program-command.ensures
+
+pub loop-subcommand-preserved : goal.loop-subcommand-preserved
+loop-subcommand-preserved c =
+    let left = drop (c.loop-subcommand.subcommand-index + 1) subcommands in
+    ap (λ app. with_subcommands app left) (subcommand_added _ _ _ _ _ c.in_ok-command.ensures c.in_ok-command_of.ensures.local refl c.in_ok-command_of.ensures.app)
+    ∙ sym (at_drop_more (with_subcommands (app_of c.loop-subcommand.command)) subcommands c.loop-subcommand.subcommand-index Print c.loop-subcommand-test.true)
+    ∙ c.loop-subcommand.invariant
+
 pub returns : goal.returns
 returns c =
-    let one = with_subcommand program_app print_app.top in
-    let two = with_subcommand one asm_app.top in
-    let three = with_subcommand two disasm_app.top in
-    let four = with_subcommand three debug_app.top in
-    let five = with_subcommand four trace_app.top in
-    let six = with_subcommand five page_app.top in
-    let seven = with_subcommand six write_app.top in
-    let first = subcommand_added _ _ _ program_app print_app c.in_ok-subcommand.ensures c.in_ok-print_command.ensures.local c.program.ensures c.in_ok-print_command.ensures.app in
-    let second = subcommand_added _ _ _ one asm_app c.in_ok-subcommand-2.ensures c.in_ok-asm_command.ensures.local first c.in_ok-asm_command.ensures.app in
-    let third = subcommand_added _ _ _ two disasm_app c.in_ok-subcommand-3.ensures c.in_ok-disasm_command.ensures.local second c.in_ok-disasm_command.ensures.app in
-    let fourth = subcommand_added _ _ _ three debug_app c.in_ok-subcommand-4.ensures c.in_ok-debug_command.ensures.local third c.in_ok-debug_command.ensures.app in
-    let fifth = subcommand_added _ _ _ four trace_app c.in_ok-subcommand-5.ensures c.in_ok-trace_command.ensures.local fourth c.in_ok-trace_command.ensures.app in
-    let sixth = subcommand_added _ _ _ five page_app c.in_ok-subcommand-6.ensures c.in_ok-page_command.ensures.local fifth c.in_ok-page_command.ensures.app in
-    let seventh = subcommand_added _ _ _ six write_app c.in_ok-subcommand-7.ensures c.in_ok-write_command.ensures.local sixth c.in_ok-write_command.ensures.app in
-    IfOk-weaker c.subcommand-8.result _ _
-    (λ command adds.
-    subcommand_added _ _ command seven session_app adds c.in_ok-press_command.ensures.local seventh
-    c.in_ok-press_command.ensures.app)
-    c.subcommand-8.ensures
+    sym (at_drop_all (with_subcommands (app_of c.loop-subcommand.command)) subcommands c.loop-subcommand.subcommand-index (omega (arith, c.loop-subcommand-test.false)))
+    ∙ c.loop-subcommand.invariant

@@ -1,13 +1,10 @@
 use Rattle.std.proofs.Common.{◌∙◌, ℕ, List, Bor, map, sym, subst, inl, inr}
 use Rattle.std.proofs.lemmas.Result.{IfOk-weaker, IfErr-weaker}
 use Rattle.press_units.proofs.ExitLemmas.{exit-is}
-use Rattle.press_devices.specs.Reading.{SomeFails}
 use Rattle.press_core.specs.Events.{Message}
-use Rattle.press_jobs.specs.Jobs.{HaveImages, ImagesRefused}
+use Rattle.press_files.specs.Edge.{input_called}
 use Rattle.press_sessions.specs.declared.session_error.SessionError.{SessionError}
 use Rattle.press_sessions.specs.Sessions.{KeepsDelivered, MessageFails, Standing, TakesEvent, standing}
-use Rattle.press_files.specs.NamedInputs.{NamedInput, named}
-use Rattle.press_files.proofs.MapLemmas.{map-twice}
 use Rattle.press_sessions.proofs.HappeningLemmas.{TakesEvent-message}
 use Rattle.press_sessions.proofs.SessionLemmas.{IsUnread-missing, IsUnread-cause, KeepsDelivered-same}
 use Rattle.press_sessions.proofs.session.Session.message.Goals as goal
@@ -28,35 +25,31 @@ loop-image-preserved g c = c.spare-in-loop-image.ensures ∙ c.loop-image.invari
 -- the file cannot be opened
 pub returns-in_err-input-clause-err : goal.returns-in_err-input-clause-err
 returns-in_err-input-clause-err g c =
-    let input = named (SomeFails g.I.Input.ReadDevice.failed g.I.Input.ReadDevice.reads) (g.I.NamedInputs.bytes c.args.inputs.now) (g.I.NamedInputs.missing c.args.inputs.now) in
+    let input = input_called g.I.Input.ReadDevice g.I.NamedInputs c.args.inputs.now in
     rw (exit-is c.from_residual-in_err-input.ensures.1)
     (inl (IsUnread-missing (input c.args.file.now) c.in_err-input.field-0.0 c.in_err-input.ensures.missing), c.loop-image.invariant)
 
 -- the file was not read
 pub returns-in_err-text-clause-err : goal.returns-in_err-text-clause-err
 returns-in_err-text-clause-err g c =
-    let input = named (SomeFails g.I.Input.ReadDevice.failed g.I.Input.ReadDevice.reads) (g.I.NamedInputs.bytes c.args.inputs.now) (g.I.NamedInputs.missing c.args.inputs.now) in
+    let input = input_called g.I.Input.ReadDevice g.I.NamedInputs c.args.inputs.now in
     rw (exit-is c.from_residual-in_err-text.ensures.1)
     (inl (IsUnread-cause (input c.args.file.now) _ c.in_err-text.field-0.0 (λ fails. (c.read_all.new.reader, fails)) c.in_err-text.ensures.cause), c.loop-image.invariant)
 
 -- an image was not read
 pub returns-in_err-images-clause-err : goal.returns-in_err-images-clause-err
 returns-in_err-images-clause-err g c =
-    let input = named (SomeFails g.I.Input.ReadDevice.failed g.I.Input.ReadDevice.reads) (g.I.NamedInputs.bytes c.args.inputs.now) (g.I.NamedInputs.missing c.args.inputs.now) in
-    let now : Bor (List ℕ) → List ℕ = λ name. name.now in
     rw (exit-is c.from_residual-in_err-images.ensures.1) (
       inr (
         c.in_ok-text.text.items,
         (_, rw c.in_ok-input.ensures.bytes at c.in_ok-text.ensures.whole),
-        subst (λ (inputs : List NamedInput). ImagesRefused inputs c.in_err-images.field-0.0) (map-twice now input c.args.images.now) c.in_err-images.ensures.refused,
+        c.in_err-images.ensures.refused,
       ),
       c.loop-image.invariant,
     )
 
 pub returns-clause-ok : goal.returns-clause-ok
 returns-clause-ok g c =
-    let input = named (SomeFails g.I.Input.ReadDevice.failed g.I.Input.ReadDevice.reads) (g.I.NamedInputs.bytes c.args.inputs.now) (g.I.NamedInputs.missing c.args.inputs.now) in
-    let now : Bor (List ℕ) → List ℕ = λ name. name.now in
     let text = c.in_ok-text.text.items in
     let images = c.in_ok-images.images.items in
     IfOk-weaker c.carry_out.result _ _
@@ -64,7 +57,7 @@ returns-clause-ok g c =
       Message text images,
       (
         (_, rw c.in_ok-input.ensures.bytes at c.in_ok-text.ensures.whole),
-        subst (λ (inputs : List NamedInput). HaveImages inputs images) (map-twice now input c.args.images.now) c.in_ok-images.ensures.images,
+        c.in_ok-images.ensures.images,
       ),
       subst (λ (old : Standing). TakesEvent g.D.EntryFolder.parts (Message text images) old (standing c.carry_out.new.self) answer.items) c.loop-image.invariant
           (TakesEvent-message g.D.EntryFolder.parts _ _ _ _ (standing c.loop-image.self) (standing c.carry_out.new.self) answer.items
@@ -74,7 +67,7 @@ returns-clause-ok g c =
 
 pub returns-clause-err : goal.returns-clause-err
 returns-clause-err g c =
-    let input = named (SomeFails g.I.Input.ReadDevice.failed g.I.Input.ReadDevice.reads) (g.I.NamedInputs.bytes c.args.inputs.now) (g.I.NamedInputs.missing c.args.inputs.now) in
+    let input = input_called g.I.Input.ReadDevice g.I.NamedInputs c.args.inputs.now in
     let names : List (List ℕ) = map {A = Bor (List ℕ)} {B = List ℕ} (λ name. name.now) c.args.images.now in
     let new = standing c.carry_out.new.self in
     IfErr-weaker c.carry_out.result _ _

@@ -1,2 +1,0 @@
--- Lemmas on jobs of tickets over files.
-pub mod JobLemmas

@@ -1,4 +1,0 @@
--- Jobs of tickets, over files.
-pub mod Causes
-pub mod Faults
-pub mod Jobs
