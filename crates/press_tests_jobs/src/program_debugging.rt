@@ -1,6 +1,7 @@
 //! A debugger whose answers are flushed.
-use crate::program_devices::Held;
-use press_main::debug_lines;
+use crate::program_devices::{Held, NoInputs};
+use press_main::{Devices, debug_lines};
+use press_sink::ListOutputs;
 use std::test::Fail;
 
 /// Two commands that move the cursor, and a form feed.
@@ -16,13 +17,14 @@ limit step 2 depth 0 x 0 y 0
 fn each_answer_is_flushed(rt: HostRuntime) -> Result<(), Fail> {
     let mut stream = STREAM;
     let mut lines = b"step\ngo 1\n".as_slice();
-    let mut out = Held {
+    let out = Held {
         bytes: Vec::new(rt.alloc()),
         flushed: 0,
         fails: false,
     };
-    let mut err = Vec::new(rt.alloc());
-    let status = debug_lines(rt.alloc(), &mut stream, &mut lines, &mut out, &mut err);
-    assert_eq!(rt; (status, out.flushed), (0, ANSWERS.len()));
+    let (outputs, err) = (ListOutputs::new(rt.alloc()), Vec::new(rt.alloc()));
+    let mut devices = Devices::new(NoInputs, outputs, out, err);
+    let status = debug_lines(rt.alloc(), &mut stream, &mut lines, &mut devices);
+    assert_eq!(rt; (status, devices.out.flushed), (0, ANSWERS.len()));
     Ok(())
 }

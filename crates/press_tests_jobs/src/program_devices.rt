@@ -1,6 +1,7 @@
 //! Devices that fail, and a listing that is flushed.
-use press_main::print_list;
-use std::io::{self, ErrorKind, Read, Write};
+use press_main::{Devices, InputError, NamedInputs, print_list};
+use press_sink::ListOutputs;
+use std::io::{self, Empty, ErrorKind, Read, Write};
 use std::test::Fail;
 
 /// A reader that is interrupted once, gives its bytes one at a time, and then fails or ends.
@@ -52,6 +53,30 @@ impl Write for Held {
     }
 }
 
+/// Inputs of which none can be opened.
+#[derive(Drop)]
+pub struct NoInputs;
+
+impl NamedInputs for NoInputs {
+    ghost use Rattle.std.specs.Prelude.{None, true, ⊤};
+
+    ghost bytes = { λ _ _. None };
+
+    ghost missing = { λ _ _. ⊤ };
+
+    ghost present = { λ _ _. ⊥ };
+
+    ghost failed = { λ _. true };
+
+    type Input = Empty;
+
+    fn open(&self, _name: &str) -> Result<Empty, InputError> {
+        Err(InputError::ReadFault)
+    }
+
+    fn close(&mut self, _input: Empty) {}
+}
+
 #[test]
 fn the_listing_is_flushed(rt: HostRuntime) -> Result<(), Fail> {
     for fails in [false, true] {
@@ -61,16 +86,17 @@ fn the_listing_is_flushed(rt: HostRuntime) -> Result<(), Fail> {
             flushed: 0,
             fails,
         };
-        let mut err = Vec::new(rt.alloc());
-        let listed = print_list(rt.alloc(), b"", &mut reader, out, &mut err);
+        let (outputs, err) = (ListOutputs::new(rt.alloc()), Vec::new(rt.alloc()));
+        let mut devices = Devices::new(NoInputs, outputs, out, err);
+        let status = print_list(rt.alloc(), b"", &mut reader, &mut devices);
         let wanted: (u8, usize, &[u8]) = if fails {
             (1, 0, b"fault output\n")
         } else {
             (0, 32, b"")
         };
-        assert_eq!(rt; listed.status, wanted.0);
-        assert_eq!(rt; listed.out.flushed, wanted.1);
-        assert_eq!(rt; err.as_slice(), wanted.2);
+        assert_eq!(rt; status, wanted.0);
+        assert_eq!(rt; devices.out.flushed, wanted.1);
+        assert_eq!(rt; devices.err.as_slice(), wanted.2);
     }
     Ok(())
 }

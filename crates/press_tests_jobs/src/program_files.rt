@@ -1,5 +1,8 @@
 //! What the program makes and writes of streams, texts and tickets, over outputs and inputs that are kept in lists.
-use press_main::{InputError, NamedInputs, asm_file, asm_text, job_file, print_files, write_files};
+use crate::program_devices::NoInputs;
+use press_main::{
+    Devices, InputError, NamedInputs, asm_file, asm_text, job_file, print_files, write_files,
+};
 use press_sink::{ListOutputs, ListedOutput, NamedOutputs};
 use std::process::Abort;
 use std::test::Fail;
@@ -22,11 +25,11 @@ const JOB_END: &[u8] = b"\x1BE\x1B%-12345X";
 
 /// One image, whatever it is called.
 #[derive(Drop)]
-struct OneImage {
-    file: &'static [u8],
+struct OneImage<'a> {
+    file: &'a [u8],
 }
 
-impl NamedInputs for OneImage {
+impl<'a> NamedInputs for OneImage<'a> {
     ghost use Rattle.std.specs.Prelude.{Some, true, ⊤};
 
     ghost bytes = { λ image _. Some image.file.now };
@@ -37,13 +40,13 @@ impl NamedInputs for OneImage {
 
     ghost failed = { λ _. true };
 
-    type Input = &'static [u8];
+    type Input = &'a [u8];
 
-    fn open(&self, _name: &str) -> Result<&'static [u8], InputError> {
+    fn open(&self, _name: &str) -> Result<&'a [u8], InputError> {
         Ok(self.file)
     }
 
-    fn close(&mut self, _input: &'static [u8]) {}
+    fn close(&mut self, _input: &'a [u8]) {}
 }
 
 /// What an output of this name holds.
@@ -62,19 +65,11 @@ fn held<'a>(
 fn a_side_is_made_as_an_output(rt: HostRuntime) -> Result<(), Fail> {
     let alloc = rt.alloc();
     let mut reader: &[u8] = b"\x1B&l1S\x0C\x1B*p0x0Y\x1B*c3a2b0P\x0C";
-    let mut err = Vec::new(alloc);
-    let outputs = ListOutputs::new(alloc);
-    let made = print_files(
-        alloc,
-        outputs,
-        b"",
-        &mut reader,
-        "p%d",
-        Vec::new(alloc),
-        &mut err,
-    );
-    assert_eq!(rt; (made.status, err.len(), made.out.len()), (0, 0, 0));
-    let outputs = made.outputs.outputs();
+    let (outputs, out, err) = (ListOutputs::new(alloc), Vec::new(alloc), Vec::new(alloc));
+    let mut devices = Devices::new(NoInputs, outputs, out, err);
+    let status = print_files(alloc, b"", "p%d", &mut reader, &mut devices);
+    assert_eq!(rt; (status, devices.err.len(), devices.out.len()), (0, 0, 0));
+    let outputs = devices.outputs.outputs();
     assert_eq!(rt; outputs.len(), 2);
     for (number, name) in ["p1", "p2"].iter().enumerate() {
         let Some(file) = held(&rt, outputs, number, name) else {
@@ -92,16 +87,17 @@ fn a_side_is_made_as_an_output(rt: HostRuntime) -> Result<(), Fail> {
 fn a_text_is_made_an_output_and_written(rt: HostRuntime) -> Result<(), Fail> {
     let alloc = rt.alloc();
     let (mut reader, mut again) = (TEXT, TEXT);
-    let (mut err, mut out) = (Vec::new(alloc), Vec::new(alloc));
-    let mut outputs = ListOutputs::new(alloc);
-    outputs.spare("text")?;
-    let status = asm_file(alloc, &mut reader, &mut outputs, "stream", &mut err);
-    assert_eq!(rt; (status, err.len()), (0, 0));
-    assert_eq!(rt; outputs.outputs().len(), 1);
-    assert_eq!(rt; held(&rt, outputs.outputs(), 0, "stream"), Some(STREAM));
-    let status = asm_text(alloc, &mut again, &mut out, &mut err);
-    assert_eq!(rt; (status, err.len()), (0, 0));
-    assert_eq!(rt; out.as_slice(), STREAM);
+    let (outputs, out, err) = (ListOutputs::new(alloc), Vec::new(alloc), Vec::new(alloc));
+    let mut devices = Devices::new(NoInputs, outputs, out, err);
+    devices.outputs.spare("text")?;
+    let status = asm_file(alloc, "stream", &mut reader, &mut devices);
+    assert_eq!(rt; (status, devices.err.len()), (0, 0));
+    let outputs = devices.outputs.outputs();
+    assert_eq!(rt; outputs.len(), 1);
+    assert_eq!(rt; held(&rt, outputs, 0, "stream"), Some(STREAM));
+    let status = asm_text(alloc, &mut again, &mut devices);
+    assert_eq!(rt; (status, devices.err.len()), (0, 0));
+    assert_eq!(rt; devices.out.as_slice(), STREAM);
     Ok(())
 }
 
@@ -109,27 +105,17 @@ fn a_text_is_made_an_output_and_written(rt: HostRuntime) -> Result<(), Fail> {
 fn a_ticket_is_made_an_output_and_written(rt: HostRuntime) -> Result<(), Fail> {
     let alloc = rt.alloc();
     let (mut ticket, mut again) = (TICKET, TICKET);
-    let (mut err, mut out) = (Vec::new(alloc), Vec::new(alloc));
-    let mut outputs = ListOutputs::new(alloc);
     let names: [&[u8]; 1] = [b"dot"];
     let image = OneImage { file: IMAGE };
-    let status = job_file(
-        alloc,
-        &mut ticket,
-        &image,
-        &names,
-        &mut outputs,
-        "job",
-        &mut err,
-    );
-    assert_eq!(rt; (status, err.len()), (0, 0));
-    let status = write_files(alloc, &mut again, &image, &names, &mut out, &mut err);
-    assert_eq!(rt; (status, err.len()), (0, 0));
-    assert!(rt; out.ends_with(JOB_END));
-    assert_eq!(rt; outputs.outputs().len(), 1);
-    assert_eq!(rt;
-        held(&rt, outputs.outputs(), 0, "job"),
-        Some(out.as_slice())
-    );
+    let (outputs, out, err) = (ListOutputs::new(alloc), Vec::new(alloc), Vec::new(alloc));
+    let mut devices = Devices::new(image, outputs, out, err);
+    let status = job_file(alloc, "job", &names, &mut ticket, &mut devices);
+    assert_eq!(rt; (status, devices.err.len()), (0, 0));
+    let status = write_files(alloc, &names, &mut again, &mut devices);
+    assert_eq!(rt; (status, devices.err.len()), (0, 0));
+    assert!(rt; devices.out.ends_with(JOB_END));
+    let outputs = devices.outputs.outputs();
+    assert_eq!(rt; outputs.len(), 1);
+    assert_eq!(rt; held(&rt, outputs, 0, "job"), Some(devices.out.as_slice()));
     Ok(())
 }

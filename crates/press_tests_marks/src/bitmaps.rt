@@ -63,6 +63,11 @@ fn a_line_is_its_bytes(rt: HostRuntime) -> Result<(), Fail> {
     assert!(rt; page.height() > 1);
     assert_eq!(rt; page.line(0), [0, 0].as_slice());
     assert_eq!(rt; page.line(1), [0xFF, 0xC0].as_slice());
+    assert_eq!(rt;
+        page.column(9, 0),
+        [false, true, false, false, false, false, false, false]
+    );
+    assert_eq!(rt; page.column(10, 0), [false; 8]);
     Ok(())
 }
 

@@ -68,5 +68,10 @@ fn a_canvas_has_the_dots_of_its_page(rt: HostRuntime) -> Result<(), Fail> {
     assert_eq!(rt; (size.width, size.height), (20, 30));
     assert!(rt; page.get(2, 19) && page.get(2, 26));
     assert!(rt; !page.get(2, 18) && !page.get(2, 27) && !page.get(3, 19) && !page.get(20, 19));
+    assert_eq!(rt;
+        page.dots(0, 26),
+        [false, false, true, false, false, false, false, false]
+    );
+    assert_eq!(rt; page.dots(0, 27), [false; 8]);
     Ok(())
 }
