@@ -1,26 +1,40 @@
 # Completions for bash: source tools/completions.bash
+# The names are those of `press tables`, as tools/asked/tables.json has them, a row in a line.
+_press_tables="$(cd "$(dirname "${BASH_SOURCE[0]}")" && pwd)/asked/tables.json"
+# the rows of a table, and of these that of a name
+_press_rows() {
+  sed -n "/^\"$1\":/,/^]/p" "$_press_tables" | grep "^{\"name\":\"$2"
+}
+_press_subcommands() {
+  _press_rows subcommands | cut -d '"' -f 4 | tr '\n' ' '
+}
+_press_switches() {
+  _press_rows subcommands "$1\"" | sed 's/.*"flags":\[\(.*\)\],"options":\[\(.*\)\],"about".*/\1 \2/' | tr '",' '  '
+}
+# NAME=VALUE of each value of a variable, but those at power on
+_press_defaults() {
+  echo COPIES=2
+  _press_rows variables | sed -n 's/^{"name":"\(.*\)","default":"\(.*\)","values":\[\(.*\)\]}.*/\1 \2 \3/p' | tr '",' '  ' | while read -r name factory values; do
+    for value in $values; do
+      [ "$value" = "$factory" ] || echo "$name=$value"
+    done
+  done
+}
 _press() {
   local word="${COMP_WORDS[COMP_CWORD]}" first="${COMP_WORDS[1]}" place="$COMP_CWORD"
-  local defaults="RESOLUTION=600 PAPER=A4 PAPER=LETTER PAPER=LEGAL PAPER=EXECUTIVE PAPER=LEDGER PAPER=A3 DUPLEX=ON COPIES=2 ORIENTATION=LANDSCAPE BINDING=SHORTEDGE"
   if [ "$first" = --prove ] || [ "$first" = --proved ]; then
     first="${COMP_WORDS[2]}"
     place=$((place - 1))
   fi
   if [ "$place" -eq 1 ]; then
-    mapfile -t COMPREPLY < <(compgen -W "--prove --proved print asm disasm debug trace page write press help --help --version" -- "$word")
+    mapfile -t COMPREPLY < <(compgen -W "--prove --proved $(_press_subcommands) help --help --version" -- "$word")
   elif [ "${COMP_WORDS[COMP_CWORD-1]}" = --default ]; then
-    mapfile -t COMPREPLY < <(compgen -W "$defaults" -- "$word")
-  elif [ "$first" = print ] && [[ "$word" == -* ]]; then
-    mapfile -t COMPREPLY < <(compgen -W "--list --sums --default" -- "$word")
-  elif [ "$first" = trace ] && [[ "$word" == -* ]]; then
-    mapfile -t COMPREPLY < <(compgen -W "--runs --default" -- "$word")
-  elif [[ "$first" = @(debug|page) ]] && [[ "$word" == -* ]]; then
-    mapfile -t COMPREPLY < <(compgen -W "--default" -- "$word")
+    mapfile -t COMPREPLY < <(compgen -W "$(_press_defaults)" -- "$word")
   elif [ "$first" = press ] && [ "${COMP_WORDS[COMP_CWORD-1]}" = --engines ]; then
     mapfile -t COMPREPLY < <(compgen -W "1 2 3 4" -- "$word")
-  elif [ "$first" = press ] && [[ "$word" == -* ]]; then
-    mapfile -t COMPREPLY < <(compgen -W "--engines --out --sums --keep-going" -- "$word")
-  elif [ "$first" != press ]; then
+  elif [[ "$word" == -* ]]; then
+    mapfile -t COMPREPLY < <(compgen -W "$(_press_switches "$first")" -- "$word")
+  elif [[ "$first" != @(press|tables) ]]; then
     mapfile -t COMPREPLY < <(compgen -f -- "$word")
   fi
 }
@@ -55,7 +69,7 @@ complete -o filenames -F _network tools/printer tools/scrub tools/jmf
 _streams() {
   local word="${COMP_WORDS[COMP_CWORD]}"
   if [ "${COMP_WORDS[COMP_CWORD-1]}" = --default ]; then
-    mapfile -t COMPREPLY < <(compgen -W "RESOLUTION=600 PAPER=A4 PAPER=LETTER DUPLEX=ON" -- "$word")
+    mapfile -t COMPREPLY < <(compgen -W "$(_press_defaults)" -- "$word")
   elif [ "${COMP_WORDS[0]}" = tools/regress ] && [ "$COMP_CWORD" -eq 1 ]; then
     mapfile -t COMPREPLY < <(compgen -W "record check" -- "$word")
   elif [[ "$word" == -* ]]; then

@@ -31,6 +31,8 @@ ROWS = [
     ("debug dot", b"step\n", "output"),
     ("debug dot", b"step\n" * 500, "output"),
     ("debug dot", b"what\n", "output"),
+    ("tables", b"", "output"),
+    ("tables", b"\x0c", "output"),
     ("--help", b"", "output"),
     ("help", b"", "output"),
     ("print --help", b"", "output"),

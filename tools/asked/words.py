@@ -1,5 +1,7 @@
 """Words of the command line. Where nothing else is said a form feed stands on standard input."""
 
+from pathlib import Path
+
 PAGE = "sheet 1 front 2550x3300 black 0\n"
 FEED = b"\x0c"
 # The digests are those of sha256sum, of the files that `print` makes.
@@ -15,6 +17,7 @@ NO_DEFAULT = ("error: --default {} is no NAME=VALUE of the job language, as RESO
 MORE = "\n\nFor more information, try '--help'.\n"
 UNKNOWN = "error: unrecognized subcommand '{}'\n\nUsage: press [COMMAND]" + MORE
 UNEXPECTED = "error: unexpected argument '{}' found\n\nUsage: press print [OPTIONS] <IN> [OUT]" + MORE
+TABLES = (Path(__file__).resolve().parent / "tables.json").read_text(encoding="ascii")
 LONG = "x" * 63  # with one character more the longest that is told
 
 # Words, status, what is printed on standard output and then on standard error (bytes: on standard output alone; None: something,
@@ -111,8 +114,11 @@ ROWS = [
     ("press --keep-going", 0, "fault 702\nfault 702\nturn - 0\n", b"turn 1 1\nturn 0 7\nturn 1"),
     ("press --keep-going --engines 2", 0, "ok\nfault 702\nturn - 0\n", b"pause\nturn 1 2\nturn 1 1\n"),
     ("press --keep-going --engines 0", 1, "fault 701\n", b"pause\n"),
+    ("tables", 0, TABLES, FEED),
+    ("tables", 0, TABLES, b""),
     ("--help", 0, None, FEED),
     ("help", 0, None, FEED),
+    ("help tables", 0, None, FEED),
     ("--version", 0, "press 1.0.0 (proved by rattle-kit-13f)\n", FEED),
     ("-V", 0, "press 1.0.0 (proved by rattle-kit-13f)\n", FEED),
     ("print --version", 2, None, FEED),
@@ -126,6 +132,9 @@ ROWS = [
     ("disasm a b", 2, None, FEED),
     ("write", 2, None, FEED),
     ("write a", 2, None, FEED),
+    ("tables extra", 2, None, FEED),
+    ("tables -", 2, None, FEED),
+    ("tables --list", 2, None, FEED),
     ("press -", 2, None, FEED),
     ("press --engines", 2, None, FEED),
     ("press --engines two", 2, None, FEED),

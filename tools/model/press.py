@@ -17,8 +17,8 @@ ENTRY = ["QueueEntryID"]
 PARAMETERS = {
     "SubmitQueueEntry": ["Ticket", "|", "Priority"],
     "HoldQueueEntry": ENTRY,
-    "ResumeQueueEntry": ENTRY,
     "SuspendQueueEntry": ENTRY,
+    "ResumeQueueEntry": ENTRY,
     "AbortQueueEntry": ENTRY,
     "RemoveQueueEntry": ENTRY,
     "SetQueueEntryPriority": ENTRY + ["Priority"],

@@ -8,7 +8,7 @@ import json
 from pathlib import Path
 from typing import NamedTuple
 
-from . import asm, debug_lines, defaults, pages, pbm, press, press_lines, runs, ticket, trace_lines
+from . import asm, debug_lines, defaults, pages, pbm, press, press_lines, runs, tables, ticket, trace_lines
 from .engine import Deliver
 from .press_lines import BAD_TEMPLATE, NUMBER, FileFault, read_file, read_image
 
@@ -65,7 +65,7 @@ class Program:
     def answer(self, words):
         """What is answered to these words; `{}` is a file of what is given on standard input."""
         calls = {"print": self.print, "asm": self.asm, "disasm": self.disasm, "debug": self.debug, "write": self.write,
-                 "trace": self.trace, "page": self.page}
+                 "trace": self.trace, "page": self.page, "tables": self.tables}
         if words and words[0] == "press":
             return self.press(words[1:])
         if words and words[0] not in calls:
@@ -124,6 +124,11 @@ class Program:
             for _, side in output.sheet.sides():
                 sides += 1
                 self.make(template.replace(NUMBER, str(sides)), pbm.bytes_of_side(side), PAGE_FAULT)
+
+    def tables(self, words):
+        if words:
+            raise NoAnswer()
+        self.out += tables.text()
 
     def asm(self, words):
         source, target = exactly(2, words)

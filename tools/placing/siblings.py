@@ -1,5 +1,5 @@
 """The kinds of things that get siblings: what each member is called wherever it stands, what counts or lists all of them, and the rooms in which
-no word of them stands, though a sibling changes them.
+no word of them stands, though a sibling changes them. The members are the rows that `press tables` prints, where it has a table of them.
 
 A word may be a member's name, its number, its variant or its text. Numbers that mean other things elsewhere stand with what is around them. Fault
 numbers are found in spans, too (`611 to 613`).
@@ -7,6 +7,8 @@ numbers are found in spans, too (`611 to 613`).
 
 import re
 from typing import NamedTuple
+
+from seen import tables
 
 ENGLISH = ("one", "two", "three", "four", "five", "six", "seven", "eight", "nine", "ten", "eleven", "twelve", "thirteen", "fourteen", "fifteen")
 
@@ -32,28 +34,32 @@ class Kind(NamedTuple):
         return re.compile("|".join(patterns), re.IGNORECASE) if patterns else None
 
 
-def numbers(*spans):
-    return {str(number): () for first, last in spans for number in range(first, last + 1)}
+def short(message):
+    """What a message to an entry is called where its type is known: `hold`, `set_priority`."""
+    words = re.findall("[A-Z][a-z]+", message.replace("QueueEntry", ""))
+    return ("_".join(words).lower(),) if "QueueEntry" in message else ()
 
 
+# the faults that calls of the libraries have, and no words of the program reach
+UNTOLD_FAULTS = (101, 122, 201, 202, 303, 305, 501, 502)
 FAULT_ROOMS = {"docs/FAULTS.md": "its row: when it comes, what it leaves", "tools/reasons/__init__.py": "why it came and what to do, for tools/why"}
 KINDS = (
     Kind("page size",
-         {"Letter": ("l2A",), "Legal": ("l3A",), "A4": ("l26A",), "Executive": ("l1A",), "Ledger": ("l6A",), "A3": ("l27A",)},
+         {row["name"].capitalize(): (f"l{row['number']}A",) for row in tables.tables()["page_sizes"]},
          ("page sizes", "sizes", "sizes of paper", "media"), "",
          {"crates/press_page/src/defaults.rt": "where it is to be the size at power on",
           "crates/press_page/specs/Environment.antt": "where it is to be the size at power on",
           "crates/press_ticket/src/parts.rt": "how the key Media is read",
           "crates/press_writer/specs/Fitting.antt": "which images fit on it"}),
     Kind("variable of the job language",
-         {"COPIES": (), "PAPER": (), "ORIENTATION": (), "DUPLEX": (), "BINDING": (), "RESOLUTION": ()},
+         {name: () for name in tables.names("variables")},
          ("variables", "settings of the job language"), "",
          {"crates/press_pjl/src/environment.rt": "the environment's field",
           "crates/press_page/src/environment.rt": "what a reset takes of it", "crates/press_page/specs/Environment.antt": "what a reset takes of it",
           "crates/press_trace/src/fields.rt": "what a trace tells of it", "crates/press_trace/specs/Fields.antt": "what a trace tells of it",
           "docs/TRACE.md": "what a trace tells of it"}),
     Kind("fault",
-         numbers((101, 101), (111, 115), (121, 122), (201, 202), (301, 305), (401, 403), (501, 502), (601, 605), (611, 614), (701, 702)),
+         {str(number): () for number in sorted([*tables.fault_numbers(), *UNTOLD_FAULTS])},
          (), "", FAULT_ROOMS, True),
     Kind("raster method",
          {"RunLength": ("run_length", "b1M"), "PackBits": ("packed", "b2M"), "DeltaRow": ("delta", "b3M"), "Adaptive": ("b5M",), "Unencoded": ("plain", "b0M")},
@@ -64,10 +70,7 @@ KINDS = (
           "crates/press_writer/specs/Picture.antt": "the numbers of methods that an image is written by",
           "crates/press_raster/specs/Rows.antt": "which rows its data stands for", "crates/press_raster/src/drawing.rt": "which rows its data stands for"}),
     Kind("message",
-         {"SubmitQueueEntry": ("submit",), "HoldQueueEntry": ("hold",), "SuspendQueueEntry": ("suspend",), "ResumeQueueEntry": ("resume",),
-          "AbortQueueEntry": ("abort",), "RemoveQueueEntry": ("remove",), "SetQueueEntryPriority": ("set_priority",),
-          "SetQueueEntryPosition": ("set_position",), "HoldQueue": (), "ResumeQueue": (), "OpenQueue": (), "CloseQueue": (), "FlushQueue": (),
-          "QueueStatus": (), "Status": ()},
+         {name: short(name) for name in tables.names("messages")},
          ("messages", "types of messages"), "",
          {"crates/press_queue/specs/Legal.antt": "the statuses in which it is legal", "crates/press_queue/specs/Rows.antt": "its row",
           "crates/press_queue/src/queue.rt": "what it makes of the entry", "crates/press_queue/src/command.rt": "its name among the commands to one entry",
@@ -76,7 +79,7 @@ KINDS = (
           "crates/press_core/src/listings.rt": "what its response adds", "tools/reasons/sessions.py": "the statuses in which it is legal",
           "tools/model/job_queue.py": "its row, by somebody who has not read the code"}),
     Kind("subcommand",
-         {name: () for name in ("print", "asm", "disasm", "debug", "write", "press", "trace", "page")},
+         {name: () for name in tables.names("subcommands")},
          ("subcommands",), "",
          {"crates/press_main/specs/Program.antt": "what it promises", "crates/press_main/src/sparing.rt": "which inputs its output may not be", "crates/press_main/src/making.rt": "how its output is made",
           "crates/press_files/specs/Files.antt": "which files it makes", "crates/press_words/specs/View.antt": "its request as contracts see it",

@@ -4,7 +4,7 @@ from model import press_lines
 from model.debug_lines import DebugLines
 from seen import program
 
-from .finding import Finding
+from .finding import Finding, advice_for_line
 
 LINES = "A line is step, over, go N, break KIND, clear N or recent, with one space between words"
 KINDS = "KIND is esc E, par *cP, ctl 0C or uel, without value and data (docs/DEBUGGER.md)"
@@ -22,15 +22,8 @@ def findings(script, name, stream, chosen=program.PROGRAM):
         answers = [next(printed, "") for _ in model.answers(line)]
         shown = f"line {number}"
         if answers == ["what?"]:
-            yield Finding(None, f"{shown} asks nothing of the debugger: '{line.decode(errors='replace')[:60]}'", advice_for(line))
+            yield Finding(None, f"{shown} asks nothing of the debugger: '{line.decode(errors='replace')[:60]}'",
+                          advice_for_line(line, LINES, KINDS if line.startswith(b"break") else LINES))
         elif answers and answers[0] in REFUSALS:
             sentence, advice = REFUSALS[answers[0]]
             yield Finding(None, f"{shown} is answered {answers[0]}: {sentence}", advice)
-
-
-def advice_for(line):
-    if line.endswith(b"\r"):
-        return "A carriage return stands at its end: save the lines with line feeds alone"
-    if line != line.strip(b" ") or b"  " in line:
-        return "A space is too many. " + LINES
-    return KINDS if line.startswith(b"break") else LINES

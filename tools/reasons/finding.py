@@ -53,6 +53,13 @@ class Found(Exception):
         self.finding = Finding(number, sentence, advice)
 
 
+def advice_for_line(line, lines, otherwise):
+    """What to do about a line of a session or of a debugger that is none; `lines` says what these are."""
+    if line.endswith(b"\r"):
+        return "A carriage return stands at its end: save the lines with line feeds alone"
+    return "A space is too many. " + lines if line != line.strip(b" ") or b"  " in line else otherwise
+
+
 def counted(number, noun):
     return f"{number:,} {noun}" if number == 1 else f"{number:,} {noun}s"
 

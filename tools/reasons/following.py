@@ -40,6 +40,7 @@ class Following:
     def __init__(self, run):
         self.run = run
         self.held, self.late = set(), set()
+        self.releases = 0                               # how often some of them wait no longer
         self.unended, self.idle_overlays, self.put_back, self.repeated, self.fronts = {}, set(), set(), {}, set()
         self.begun, self.recorded = None, 0             # a macro definition, and how many commands it has
         self.put_on, self.closed = None, False          # an overlay, and whether a page closed under it
@@ -58,6 +59,7 @@ class Following:
             return
         place = happening.placed.offset
         self.held.discard(place)
+        self.releases += 1
         if isinstance(found, dict):
             found[place] = told
         elif found is not None:
@@ -165,6 +167,7 @@ class Following:
             self.rows.update(self.together)
         else:
             self.held.difference_update(self.together)
+            self.releases += len(self.together)
         self.together, self.last = {}, 0
         return many
 
@@ -173,6 +176,7 @@ class Following:
             self.repeated.update(self.rows)
             self.late.update(self.rows)
         self.held.difference_update(self.rows)
+        self.releases += 1
         self.white, self.rows = None, {}
 
 

@@ -109,6 +109,11 @@ def judge_debug(request, chosen):
     yield from debugging.findings(files.read_input("-", "IN"), name, stream, chosen)
 
 
+def judge_tables(_request, _chosen):
+    """Nothing is read, and nothing can be wrong with it."""
+    return []
+
+
 def judge_press(request, chosen):
     if not 1 <= request.engines <= MOST_ENGINES:
         raise Found(BAD_ENGINES, f"--engines asks for {counted(request.engines, 'engine')}", f"A press has 1 to {MOST_ENGINES} engines")
@@ -120,4 +125,4 @@ def judge_press(request, chosen):
 
 
 JUDGES = {"print": judge_print, "asm": judge_asm, "disasm": judge_disasm, "debug": judge_debug, "trace": judge_trace, "page": judge_page,
-          "write": judge_write, "press": judge_press}
+          "write": judge_write, "press": judge_press, "tables": judge_tables}

@@ -7,7 +7,7 @@ from model.press import NO_ENGINE, PARAMETERS
 from seen import program
 
 from . import files, images, json_faults, tickets
-from .finding import Finding, Found, counted
+from .finding import Finding, Found, advice_for_line, counted
 
 LINES = (f"A line is message FILE IMG.., turn N [ENGINE], pause, continue or abort, "
          "with one space between words")
@@ -51,7 +51,7 @@ def findings(script, engines, chosen=program.PROGRAM, goes_on=False):
             continue
         answer = next(answers, b"")
         if answer == b"what?" or (words[0] == b"message" and not all(words)):
-            yield Finding(None, f"{shown} is none of a session: '{line.decode(errors='replace')[:60]}'", advice_for(line))
+            yield Finding(None, f"{shown} is none of a session: '{line.decode(errors='replace')[:60]}'", advice_for_line(line, LINES, LINES))
         elif words[0] == b"message":
             yield from refusals(f"{shown}, {words[1].decode(errors='replace')}", answer, *asked)
 
@@ -79,14 +79,6 @@ def files_of(shown, names):
         except Found as found:
             raise Found(found.finding.number, f"{shown}: {found.finding.sentence}", found.finding.advice) from None
     return data, read, names[1:]
-
-
-def advice_for(line):
-    if line.endswith(b"\r"):
-        return "A carriage return stands at its end: save the lines with line feeds alone"
-    if line != line.strip(b" ") or b"  " in line:
-        return "A space is too many. " + LINES
-    return LINES
 
 
 def refusals(shown, answer, data, read, names):

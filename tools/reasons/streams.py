@@ -5,7 +5,7 @@ from seen import happenings, listing, program
 
 from . import damage, following, groups, kinds
 from .finding import Finding, counted
-from .untraced import AS_PCL, REASONS, Group, Judge, Reason
+from .untraced import AS_PCL, ORDER, Group, Judge, Reason
 
 READS = "the press reads PCL and PJL"
 DECODE = "Decode it first: base64 -d"
@@ -118,10 +118,10 @@ class Seen:
 
 
 def add_to(some, happening, reason, key):
-    place = REASONS.index(reason), key
-    if place not in some:
-        some[place] = Group(reason, key, happening)
-    some[place].add(happening)
+    place = ORDER[reason.name], key
+    if (group := some.get(place)) is None:
+        group = some[place] = Group(reason, key, happening)
+    group.add(happening)
 
 
 def in_order(some):

@@ -53,7 +53,8 @@ class Group:
         self.sent, self.names = NOTHING, {}
 
     def add(self, happening):
-        self.first = min(self.first, happening, key=place_of)
+        if place_of(happening) < place_of(self.first):
+            self.first = happening
         self.count += 1
         self.commands += happening.placed.count()
         self.lost += self.reason.dots(happening)
@@ -498,7 +499,12 @@ REASONS = [
     Reason("unknown", unknown, lambda *_: "ignored", "tools/explain says where each stands", groups.first_of_many, name_of=groups.of_a_kind),
 ]
 BY_NAME = {reason.name: reason for reason in REASONS}
+ORDER = {reason.name: place for place, reason in enumerate(REASONS)}
 BY_HOW = {how: [reason for reason in REASONS if reason.how in (how, "any")] for how in ("row", "no row", "HP-GL/2")}
+# What a command without a row may meet of a kind of which streams have thousands.
+BY_KIND = {("no row", kind): [BY_NAME[name] for name in some] for kind, some in {
+    Foreign: ["another language"], Text: ["what is left of a command", "text"],
+    Control: ["what is left of a command", "steps of text", "control", "unknown"]}.items()}
 LATE = [BY_NAME[name] for name in following.LATE]    # those that what follows decides
 
 
@@ -526,6 +532,7 @@ class Judge:
         self.following = following.Following(run)
         self.next = None                            # what stands behind the happening that is judged
         self.before_loss = []                       # what may put dots past an edge, and its reason
+        self.releases = 0                           # of what follows, when it was asked last which wait no longer
 
     def judged(self, in_order=False):
         """Each happening with its reason and key, or None, once all that decides them was seen: those that wait for it come later, but `in_order`, where
@@ -545,7 +552,13 @@ class Judge:
         yield from self.decided(waiting, in_order)
 
     def decided(self, waiting, in_order):
-        """Those of which all is known; they wait no longer."""
+        """Those of which all is known; they wait no longer. Where none was released since this was asked last, it can be the last one alone."""
+        if not in_order and self.following.releases == self.releases:
+            if waiting and place_of(waiting[-1][0]) not in self.following.held:
+                happening, met = waiting.pop()
+                yield happening, self.late_met(happening, met)
+            return
+        self.releases = self.following.releases
         for _ in range(len(waiting)):
             happening, met = waiting[0]
             if place_of(happening) not in self.following.held:
@@ -561,7 +574,7 @@ class Judge:
         self.see(happening)
         if happening.how == "recorded":
             return None
-        for reason in BY_HOW[happening.how]:
+        for reason in BY_KIND.get((happening.how, type(happening.placed.command))) or BY_HOW[happening.how]:
             key = reason.met(self, happening)
             if key is not None:
                 return reason, key
@@ -571,7 +584,7 @@ class Judge:
         """The same, where one that stands before it is met by what follows."""
         if place_of(happening) in self.following.late:
             for reason in LATE:
-                if met is not None and REASONS.index(met[0]) < REASONS.index(reason):
+                if met is not None and ORDER[met[0].name] < ORDER[reason.name]:
                     break
                 if (key := reason.met(self, happening)) is not None:
                     return reason, key

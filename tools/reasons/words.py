@@ -5,27 +5,17 @@ from typing import NamedTuple
 
 from model import defaults, pjl
 from model.press_lines import number_of
+from seen import tables
 
 from .finding import REFUSED_WORDS, Found
 
-# The words that each subcommand takes, those that may be missing in brackets, and any number more after `..`.
-USAGES = {
-    "print": ["IN", "[OUT]"],
-    "asm": ["IN", "OUT"],
-    "disasm": ["IN"],
-    "debug": ["IN"],
-    "trace": ["IN"],
-    "page": ["IN", "K", "OUT"],
-    "write": ["TICKET", "OUT", "[IMG..]"],
-    "press": [],
-}
-LISTS = ("--list", "--sums")
-OPTIONS = {"print": "--list] [--sums", "trace": "--runs", "press": "--engines N] [--out TEMPLATE] [--sums] [--keep-going"}
-FLAGS = {"print": LISTS, "trace": ("--runs",), "press": ("--sums", "--keep-going")}
+# The words that each subcommand takes, those that may be missing in brackets, and any number more after `...`; and its switches without a value.
+SUBCOMMANDS = {row["name"]: row for row in tables.tables()["subcommands"]}
+USAGES = {name: row["words"] for name, row in SUBCOMMANDS.items()}
+FLAGS = {name: row["flags"] for name, row in SUBCOMMANDS.items()}
+VALUES = {"--engines": "N", "--out": "TEMPLATE"}   # what stands behind a switch
 HELP = ("-h", "--help", "help", "-V", "--version")
-
-
-WITH_DEFAULTS = ("print", "debug", "trace", "page")
+WITH_DEFAULTS = [name for name, row in SUBCOMMANDS.items() if defaults.OPTION in row["options"]]
 
 
 class Request(NamedTuple):
@@ -39,7 +29,8 @@ class Request(NamedTuple):
 
 
 def usage(what):
-    options = ([f"[{OPTIONS[what]}]"] if what in OPTIONS else []) + ([f"[{defaults.OPTION} NAME=VALUE].."] if what in WITH_DEFAULTS else [])
+    options = [f"[{option} {VALUES[option]}]" for option in SUBCOMMANDS[what]["options"] if option in VALUES] + [f"[{flag}]" for flag in FLAGS[what]]
+    options += [f"[{defaults.OPTION} NAME=VALUE].."] if what in WITH_DEFAULTS else []
     words = " ".join(["press", what, *options, *USAGES[what]])
     return f"Write: {words}"
 
@@ -128,7 +119,7 @@ def request_of_rest(what, rest):
             options = False
         elif options and word in ("-h", "--help"):
             return None
-        elif options and word in FLAGS.get(what, ()) and word not in listed:
+        elif options and word in FLAGS[what] and word not in listed:
             listed.add(word)
         elif options and word.startswith("-") and word != "-":
             refuse(f"{word} stands twice" if word in listed else f"{word} is no option of {what}", usage(what))

@@ -72,6 +72,7 @@ ROWS = [
     Row("many commands that are told", ["disasm", "-"], b"A" * 310),
     Row("many lines of a session", ["press"], b"message examples/messages/queue-status.json\n" + b"pause\nwhat\n" * 50, 101),
     Row("many lines of a debugger", ["debug", "examples/streams/letterhead-and-stamps.pcl"], b"step\n" * 62, 62),
+    Row("the program's own tables", ["tables"]),
     Row("a queue that is told", ["press"], SUBMISSION + b"message examples/messages/queue-status.json\nabort\n", 3),
 ]
 

@@ -1,14 +1,16 @@
 """Which command each step of a trace takes: the next one of the stream, or of the innermost body that runs, and where that was recorded."""
 
+from types import SimpleNamespace
 from typing import NamedTuple, Optional
 
-from model import commands, engine, pjl
-from model.patterns import BadHeader, Patterns, ShortData
+from model import commands, engine, pjl, table
+from model.patterns import Patterns
 
 from .sent import letters
 
-EXECUTE, CALL, END = 2, 3, 1
+EXECUTE, CALL = 2, 3
 RESETS = (commands.Uel,)
+ON_PATTERNS = {"*cW": table.define_pattern, "*cQ": table.pattern_control}
 
 
 class Placed(NamedTuple):
@@ -104,27 +106,10 @@ class Follower:
 
     def keep_patterns(self, command, before):
         """The user's patterns that there are."""
-        key = letters(command)
-        if key == "*cW":
-            try:
-                self.patterns.define(before["pattern_id"], command.data)
-            except (BadHeader, ShortData):
-                pass
-        elif key == "*cQ":
-            control_patterns(self.patterns, command.value().whole(), before["pattern_id"])
+        if (carry_out := ON_PATTERNS.get(letters(command))) is not None:
+            carry_out(SimpleNamespace(state=SimpleNamespace(patterns=self.patterns, pattern_id=before["pattern_id"])), command)
         elif resets(command):
             self.patterns.delete_temporary()
-
-
-def control_patterns(patterns, which, number):
-    if which == 0:
-        patterns.delete_all()
-    elif which == 1:
-        patterns.delete_temporary()
-    elif which == 2:
-        patterns.delete(number)
-    elif which in (4, 5):
-        patterns.set_permanent(number, which == 5)
 
 
 def resets(command):

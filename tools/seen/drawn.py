@@ -9,12 +9,6 @@ SHADES = " .:+#"
 PICTURE_FACTOR = 4  # for 300 dots per inch
 
 
-def lines_of(page):
-    """Its lines, a byte for each dot."""
-    blank = bytes(page.width)
-    return [b"".join(map(png.DOTS.__getitem__, row))[:page.width] if any(row) else blank for row in page.rows]
-
-
 def times(page):
     """How many dots of 300 per inch have one of its dots' places."""
     return RESOLUTIONS[page.width, page.height] // PLAIN_RESOLUTION
@@ -26,12 +20,12 @@ def black(page):
 
 def picture(page, factor=PICTURE_FACTOR):
     """A PNG in grey."""
-    return png.png(png.page_picture(page.width, lines_of(page), factor * times(page)))
+    return png.png(png.page_picture(page.width, page.rows, factor * times(page)))
 
 
 def characters(page):
     """Its lines in characters."""
-    rows = list(png.grey_rows(page.width, lines_of(page), COLUMN_DOTS * times(page)))
+    rows = list(png.grey_rows(page.width, page.rows, COLUMN_DOTS * times(page)))
     yield "+" + "-" * len(rows[0]) + "+"
     for pair in zip(rows[::2], [*rows[1::2], bytes([png.PAPER]) * len(rows[0])]):
         yield "|" + "".join(shade(sum(both) / 2) for both in zip(*pair)) + "|"

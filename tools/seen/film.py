@@ -16,7 +16,7 @@ from .bodies import Body, Follower, Placed, Step
 from .fields import Fields, Now, power_on
 from .happenings import Row
 from .opened import Opened
-from .patches import BETWEEN, Page, Patch, rows_of
+from .patches import Page, laid_over, rows_of
 from .placing import Placer, row_of
 from .sent import letters
 
@@ -404,8 +404,7 @@ class Film:
         entry = next(entry for entry in self.entries(number)[0] if entry.line["at"] == place)
         placed, before, told, patch = entry.step.placed, entry.step.before, entry.line.get("page"), None
         if told:
-            patch = Patch(self.page(entry.first - 1), told["x"] // 8, told["y"], BETWEEN.join(map(str.encode, told["rows"])))
-            patch.old = patch.page.rows[patch.top:patch.top + patch.count()]
+            patch = laid_over(self.page(entry.first - 1), told)
         return Row(place - self.shift, placed.length, placed.command.field, placed.command.data, before, entry.now, 0, None, patch)
 
     def dot(self, count, x, y):

@@ -14,7 +14,7 @@ from . import program, sent, traced
 from .bodies import Follower, Placed, Step
 from .fields import Fields, Now, changes, power_on
 from .leaves import Leaves
-from .patches import BETWEEN, Open, Page, Patch
+from .patches import Open, Page, laid_over
 from .placing import Placer, row_of
 
 LINE = rb'\{"at":(\d+),"bytes":%s,"depth":0,"last":"%s",%s"sheets":(\d+),"step":(\d+),%s"x":(-?\d+),"y":(-?\d+)\}\n'
@@ -203,11 +203,7 @@ class Marks(Open):
 
     def patch_of(self, line):
         """What a line lays over the page, before that goes on by it."""
-        told = line["page"]
-        page = Page(*line["opened"]) if "opened" in line else self.page
-        patch = Patch(page, told["x"] // 8, told["y"], BETWEEN.join(map(str.encode, told["rows"])))
-        patch.old = page.rows[patch.top:patch.top + told["height"]]
-        return patch
+        return laid_over(Page(*line["opened"]) if "opened" in line else self.page, line["page"])
 
     def taken(self):
         if not self.marks:

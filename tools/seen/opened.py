@@ -1,6 +1,5 @@
 """The lines of a trace in a file without a name: they come behind those who read, from any place and as often as they like."""
 
-import fcntl
 import os
 import subprocess
 import tempfile
@@ -22,7 +21,8 @@ class Opened:
         with tempfile.TemporaryFile() as given:
             given.write(whole)
             given.seek(0)
-            self.running = subprocess.Popen([program.answering(chosen), "trace", "--runs", "-"], stdin=given, stdout=subprocess.PIPE, stderr=self.said)
+            self.running = subprocess.Popen([program.answering(chosen), "trace", "--runs", "-"], stdin=given, stdout=subprocess.PIPE, stderr=self.said,
+                                            pipesize=PIPE)
         self.size = self.wanted = 0          # bytes that stand in the file, and up to which somebody has read
         self.is_over, self.grown = False, threading.Condition()
         threading.Thread(target=self.write, daemon=True).start()
@@ -30,8 +30,6 @@ class Opened:
     def write(self):
         """Writes what the program tells to the file, and waits where that is far ahead."""
         given = self.running.stdout
-        if hasattr(fcntl, "F_SETPIPE_SZ"):
-            fcntl.fcntl(given, fcntl.F_SETPIPE_SZ, PIPE)
         while data := os.read(given.fileno(), PIPE):
             os.pwrite(self.told.fileno(), data, self.size)
             with self.grown:

@@ -85,6 +85,13 @@ class Page:
         return other
 
 
+def laid_over(page, told):
+    """The patch that a line tells, which lies over this page."""
+    patch = Patch(page, told["x"] // 8, told["y"], BETWEEN.join(map(str.encode, told["rows"])))
+    patch.old = page.rows[patch.top:patch.top + told["height"]]
+    return patch
+
+
 def replaced(laid, left, top, rows):
     """The rows of a page that are no longer there once others are laid over them, from a byte and a line on."""
     old = []

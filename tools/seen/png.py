@@ -1,7 +1,7 @@
 """Pages as grey pictures: P4 files are made smaller by a whole factor, get a thin frame, and become PNG files.
 
-A page is its width and its lines; a line is a byte for each dot, 1 where it is black. A picture is its rows; a row is a byte for
-each dot, 255 where it is white.
+A page is its width and its rows, as a P4 file has them: the most significant bit left, 1 black, and nothing behind the width. A picture is its rows, too;
+there a row is a byte for each dot, 255 where it is white.
 """
 
 import functools
@@ -10,7 +10,7 @@ import re
 import struct
 import zlib
 
-DOTS = [bytes(byte >> (7 - bit) & 1 for bit in range(8)) for byte in range(256)]
+BITS = [bytes(byte >> (7 - bit) & 1 for byte in range(256)) for bit in range(8)]    # of each byte, from the left
 SPACE = rb"(?:[ \t\n\v\f\r]|#[^\n\r]*[\n\r])"
 HEADER = re.compile(rb"P4" + SPACE + rb"+(\d+)" + SPACE + rb"+(\d+)(?:#[^\n\r]*)?[ \t\n\v\f\r]")
 MOST_IN_A_BYTE = 255
@@ -25,7 +25,7 @@ MOST_COLUMNS = 8
 
 
 def read_p4(data):
-    """Width and lines of a P4 file."""
+    """Width and rows of a P4 file."""
     header = HEADER.match(data)
     if not header:
         raise ValueError("no P4 file")
@@ -36,43 +36,59 @@ def read_p4(data):
     packed = data[header.end() : header.end() + stride * height]
     if len(packed) < stride * height:
         raise ValueError("the file ends too early")
-    blank = bytes(width)
-    rows = (packed[start : start + stride] for start in range(0, len(packed), stride))
-    return width, [b"".join(map(DOTS.__getitem__, row))[:width] if any(row) else blank for row in rows]
+    rows = [packed[start : start + stride] for start in range(0, len(packed), stride)]
+    inside = 0xFF << -width % 8 & 0xFF
+    return width, rows if inside == 0xFF else [row[:-1] + bytes([row[-1] & inside]) for row in rows]
 
 
-def black_in_squares(width, lines, factor):
-    """How many dots are black in each square of some lines, from the left.
+def dots_of(packed):
+    """A byte for each bit, 1 where it is set."""
+    dots = bytearray(8 * len(packed))
+    for bit, table in enumerate(BITS):
+        dots[bit::8] = packed.translate(table)
+    return bytes(dots)
 
-    While a sum fits a byte, lines are added as whole numbers whose bytes are the sums.
+
+def black_in_squares(rows, factor):
+    """How many dots are black in each square of some rows, from the left.
+
+    Lines, and the columns of a line, are added as whole numbers whose bytes are the sums, while these fit a byte.
     """
-    counts, squares = [0] * -(-width // factor), -(-width // factor)
-    for line in lines:
-        if 1 not in line:
-            continue
-        line += bytes(-width % factor)
-        for first in range(0, factor, MOST_IN_A_BYTE):
-            columns = (line[column::factor] for column in range(first, min(factor, first + MOST_IN_A_BYTE)))
-            sums = sum(int.from_bytes(column, "big") for column in columns).to_bytes(squares, "big")
-            counts = list(map(operator.add, counts, sums))
-    return counts
+    across = 8 * len(rows[0])
+    if len(rows) > MOST_IN_A_BYTE:
+        return list(map(operator.add, black_in_squares(rows[:MOST_IN_A_BYTE], factor), black_in_squares(rows[MOST_IN_A_BYTE:], factor)))
+    dots = dots_of(b"".join(rows))
+    line = sum(int.from_bytes(dots[start : start + across], "big") for start in range(0, len(dots), across)).to_bytes(across, "big")
+    if factor * len(rows) > MOST_IN_A_BYTE:
+        return [sum(line[left : left + factor]) for left in range(0, across, factor)]
+    line += bytes(-across % factor)
+    return sum(int.from_bytes(line[column::factor], "big") for column in range(factor)).to_bytes(len(line) // factor, "big")
 
 
-def grey_rows(width, lines, factor):
+def grey_rows(width, rows, factor):
     """The rows of the picture: each of its dots is a square of FACTOR by FACTOR dots, the darker the more of them are black."""
-    columns = [min(factor, width - left) for left in range(0, width, factor)]
-    white = bytes([PAPER]) * len(columns)
-    for top in range(0, len(lines), factor):
-        band = lines[top : top + factor]
-        blacks = black_in_squares(width, band, factor)
-        sizes = [size * len(band) for size in columns]
-        yield bytes(map(grey, blacks, sizes)) if any(blacks) else white
+    squares = -(-width // factor)
+    white = bytes([PAPER]) * squares
+    for top in range(0, len(rows), factor):
+        band = rows[top : top + factor]
+        if not b"".join(band).strip(b"\0"):
+            yield white
+            continue
+        blacks = black_in_squares(band, factor)[:squares]
+        yield shaded(blacks[:-1], factor * len(band)) + shaded(blacks[-1:], (width - (squares - 1) * factor) * len(band))
 
 
-@functools.cache
-def grey(black, size):
-    """The grey of a square of so many dots, of which so many are black."""
-    return PAPER - PAPER * black // size
+def shaded(blacks, size):
+    """The greys of squares of so many dots, of each of which so many are black."""
+    greys = greys_of(size)
+    return blacks.translate(greys) if type(blacks) is bytes else bytes(map(greys.__getitem__, blacks))
+
+
+@functools.lru_cache(maxsize=64)
+def greys_of(size):
+    """The grey of a square of so many dots, by how many of them are black."""
+    greys = bytes(PAPER - PAPER * black // size for black in range(size + 1))
+    return greys.ljust(MOST_IN_A_BYTE + 1)
 
 
 def framed(rows):
@@ -81,8 +97,8 @@ def framed(rows):
     return [across, *(bytes([FRAME]) + row + bytes([FRAME]) for row in rows), across]
 
 
-def page_picture(width, lines, factor):
-    return framed(list(grey_rows(width, lines, factor)))
+def page_picture(width, rows, factor):
+    return framed(list(grey_rows(width, rows, factor)))
 
 
 def contact_sheet(pictures):

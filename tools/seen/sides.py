@@ -13,7 +13,7 @@ class Side(NamedTuple):
     name: str      # front or back
     copies: int
     width: int
-    lines: list
+    rows: list    # a bit for each dot, the most significant left, 1 black
     black: int
     resolution: int   # in dots per inch
 
@@ -36,10 +36,10 @@ def sides_of(run):
 
 
 def side_of(page, told, number, name, copies):
-    width, lines = page
-    if (width, len(lines), sum(line.count(1) for line in lines)) != told:
+    width, rows = page
+    if (width, len(rows), int.from_bytes(b"".join(rows), "big").bit_count()) != told:
         raise ValueError(f"sheet {number} {name}: its file and the listing differ")
-    return Side(number, name, copies, width, lines, told.black, RESOLUTIONS[width, len(lines)])
+    return Side(number, name, copies, width, rows, told.black, RESOLUTIONS[width, len(rows)])
 
 
 def places_of_files(sides):
