@@ -6,6 +6,7 @@ the sums decide, and the record is dated anew. What is summed: the code, the def
 kit; the proofs are not, since a proof that is changed takes nothing from a program that was proved.
 """
 
+import contextlib
 import hashlib
 import os
 import subprocess
@@ -85,8 +86,11 @@ def at_a_glance():
 
 
 def note_proved(given, by, since):
-    """Notes that the program that stands was proved, of sources that had this sum at that time. What was changed since is compared by the next call."""
+    """Notes that the program that stands was proved, of sources that had this sum at that time. What was changed since is compared by the next call:
+    the compiled program answers none at a glance any more."""
     write(PROVED, (sources.kit(), given, sum_of_file(program.PROGRAM), by), since)
+    with contextlib.suppress(OSError):
+        COMPILED.unlink()
 
 
 def read(record=PROVED):
