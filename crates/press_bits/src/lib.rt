@@ -1,4 +1,4 @@
-//! Pages of dots: black-and-white bitmaps, and the marks that rows of dots leave on them.
+//! Pages of dots: black-and-white bitmaps, the marks that rows of dots leave on them, and printed sheets.
 #![tactic(auto)]
 
 mod band;
@@ -15,6 +15,7 @@ mod painting;
 pub mod patch_law;
 mod region;
 mod repeats;
+mod sheet;
 mod stroke;
 mod word;
 
@@ -26,4 +27,5 @@ pub use dot_row::DotRow;
 pub use fault::BlankError;
 pub use mode::{Mode, OPAQUE};
 pub use region::{Region, cut_length};
+pub use sheet::Sheet;
 pub use word::{put_word, word_at, word_from};

@@ -7,7 +7,7 @@ use Rattle.press_engine.specs.Machine.{StepResult}
 use Rattle.press_engine.proofs.TraceLaws.{joined-append}
 use Rattle.press_engine.specs.Trace.{joined}
 use Rattle.press_sink.specs.Sending.{sheets_of, under_tag}
-use Rattle.press_sink.specs.PrintedSheet.{PrintedSheet}
+use Rattle.press_bits.specs.PrintedSheet.{PrintedSheet}
 use Rattle.press_sink.specs.SinkLog.{SheetLog}
 use Rattle.press_sink.proofs.SendingLemmas.{sheets_of-append, told-nothing}
 use Rattle.press_core.specs.declared.turn.TurnError.{TurnError}

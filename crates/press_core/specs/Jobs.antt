@@ -3,7 +3,7 @@ use Rattle.std.specs.Prelude.{◌≡◌, ◌≤◌, ◌<◌, ◌+◌, ℕ, List,
 use Rattle.press_units.specs.Limits.{greatest_of_64_bits}
 use Rattle.press_bits.specs.Page.{Page}
 use Rattle.press_engine.specs.Machine.{StepResult}
-use Rattle.press_sink.specs.PrintedSheet.{PrintedSheet}
+use Rattle.press_bits.specs.PrintedSheet.{PrintedSheet}
 use Rattle.press_stream.specs.Left.{LeftWith}
 use Rattle.press_stream.specs.State.{JobState}
 use Rattle.press_writer.specs.Left.{HasImages, bytes_left}

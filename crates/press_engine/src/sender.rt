@@ -8,8 +8,9 @@ ghost use Rattle.press_engine.specs.Engine.{ending_of};
 ghost use Rattle.press_table.specs.Outputs.{outputs_of, all_outputs, finished_of, copy_out, next_count};
 
 use crate::fault::EngineError;
+use press_bits::Sheet;
 use press_pjl::write_reply;
-use press_sink::{ReplyError, ReplySink, Sheet, SheetSink, SinkError};
+use press_sink::{ReplyError, ReplySink, SheetSink, SinkError};
 use press_table::{FinishedSheet, Sent};
 use std::alloc::Global;
 

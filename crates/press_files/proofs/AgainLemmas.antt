@@ -4,7 +4,7 @@ use Rattle.std.proofs.Common.{Result, Ok, Err, OnOk, OnErr, IfErr}
 use Rattle.press_sink.specs.SinkLog.{Delivers}
 use Rattle.press_sink.specs.declared.fault.SinkError.{SinkError}
 use Rattle.press_sink.specs.declared.fault.SinkError.TheVariants.{NoMemory, SinkFault}
-use Rattle.press_sink.specs.declared.sheet.Delivery.{Delivery}
+use Rattle.press_sink.specs.declared.delivery.Delivery.{Delivery}
 use Rattle.press_files.specs.Listed.{last_of}
 
 -- the last of a list that is seen so

@@ -3,11 +3,11 @@ use Rattle.std.proofs.Common.{◌≡◌, ◌∙◌, ◌+◌, ◌<◌, ℕ, zero,
 use Rattle.std.proofs.Common.{Option, Some, None, Result, Ok, Err, refl, sym, ap, subst, arith}
 use Rattle.std.proofs.lemmas.List.{append_assoc, append-nil, at_drop_more, drop_all, length-map, map-append}
 use Rattle.std.proofs.lemmas.List.Folds.{drop_split}
-use Rattle.press_sink.specs.PrintedSheet.{PrintedSheet}
+use Rattle.press_bits.specs.PrintedSheet.{PrintedSheet}
 use Rattle.std.specs.Coded.{Coded, Coded-set, code_by, coded×, coded_list, coded_ℕ}
 use mathlib.Core.Logic.{∥∥₁_elim}
 use Rattle.press_sink.specs.declared.fault.SinkError.TheVariants.{SinkFault}
-use Rattle.press_sink.specs.declared.sheet.Delivery.{Delivery}
+use Rattle.press_sink.specs.declared.delivery.Delivery.{Delivery}
 use Rattle.press_sink.specs.Outputs.{MadeOutput, MakesPrefix, MakesOutputs, IsCut, IsPrefix, with_outputs}
 use Rattle.press_sink.proofs.SendingLemmas.{told-nothing, told-twice}
 use Rattle.press_files.specs.declared.entry_sheets.EntrySheet.{EntrySheet}

@@ -13,8 +13,8 @@ use Rattle.std.proofs.lemmas.Option.{same_Some}
 use Rattle.press_bits.specs.Page.{Page}
 use Rattle.press_devices.specs.Writing.{AppendsPrefix, Writes}
 use Rattle.press_cmd.specs.Split.{Closed}
-use Rattle.press_sink.specs.PrintedSheet.{PrintedSheet}
-use Rattle.press_sink.specs.declared.sheet.Delivery.{Delivery}
+use Rattle.press_bits.specs.PrintedSheet.{PrintedSheet}
+use Rattle.press_sink.specs.declared.delivery.Delivery.{Delivery}
 use Rattle.press_sink.specs.SinkLog.{SinkLog, under}
 use Rattle.press_sink.specs.Sending.{Output, HandsOut, sheets_of, sheets_in, under_tag, reply_bytes_of}
 use Rattle.press_sink.proofs.SendingLemmas.{sheets_in-tagged}

@@ -7,9 +7,9 @@ use Rattle.std.proofs.lemmas.Bool.{eq-eqb}
 use Rattle.std.proofs.lemmas.Bool.Decides.{eqb_tells}
 use Rattle.std.proofs.lemmas.List.{map_push}
 use Rattle.press_files.specs.declared.entry_sheets.EntrySheet.{EntrySheet}
-use Rattle.press_sink.specs.PrintedSheet.{PrintedSheet}
+use Rattle.press_bits.specs.PrintedSheet.{PrintedSheet}
 use Rattle.press_sink.specs.Template.{side_count}
-use Rattle.press_sink.specs.declared.sheet.Delivery.{Delivery}
+use Rattle.press_sink.specs.declared.delivery.Delivery.{Delivery}
 use Rattle.press_files.specs.declared.entry_sheets.EntryCount.{EntryCount}
 use Rattle.press_files.specs.EntryKept.{ArePlaced, count_in, entries_of, entry_deliveries_of, numbers_of}
 use Rattle.press_files.specs.Numbering.{occurrences_of, numbers_after, sides_of}

@@ -1,7 +1,7 @@
 -- What is kept of the sheets of entries, and under which numbers each of them stands.
 use Rattle.std.specs.Prelude.{◌≡◌, ◌+◌, ℕ, List, [], ◌∷◌, ◌++◌, map, nat_eq, unwrap_or}
 use Rattle.std.specs.Map.{lookup}
-use Rattle.press_sink.specs.declared.sheet.Delivery.{Delivery}
+use Rattle.press_sink.specs.declared.delivery.Delivery.{Delivery}
 use Rattle.press_files.specs.declared.entry_sheets.EntryCount.{EntryCount}
 use Rattle.press_files.specs.declared.entry_sheets.EntrySheet.{EntrySheet}
 use Rattle.press_files.specs.EntryPages.{sheet_page_lines}

@@ -2,8 +2,8 @@
 use Rattle.std.specs.Prelude.{ℕ, ◌+◌, Bool, List, [], ◌∷◌, ◌++◌, Option, Some, None, codes}
 use Rattle.std.specs.Fmt.{decimal}
 use Rattle.press_bits.specs.Page.{Page}
-use Rattle.press_sink.specs.declared.sheet.Delivery.{Delivery}
-use Rattle.press_sink.specs.PrintedSheet.{PrintedSheet}
+use Rattle.press_sink.specs.declared.delivery.Delivery.{Delivery}
+use Rattle.press_bits.specs.PrintedSheet.{PrintedSheet}
 use Rattle.press_files.specs.declared.entry_sheets.EntrySheet.{EntrySheet}
 use Rattle.press_files.specs.declared.measures.Measures.{Measures}
 use Rattle.press_files.specs.Listing.{measured_line}

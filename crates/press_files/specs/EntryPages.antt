@@ -4,10 +4,10 @@ use Rattle.std.specs.Fmt.{decimal}
 use Rattle.press_bits.specs.Page.{Page}
 use Rattle.press_pbm.specs.Spelling.{file_of}
 use Rattle.press_sink.specs.Outputs.{MadeOutput, IsPrefix, holding, sheet_outputs, with_outputs}
-use Rattle.press_sink.specs.PrintedSheet.{PrintedSheet}
+use Rattle.press_bits.specs.PrintedSheet.{PrintedSheet}
 use Rattle.press_sink.specs.SinkLog.{SheetLog}
 use Rattle.press_sink.specs.Template.{NameParts, number_after, side_name}
-use Rattle.press_sink.specs.declared.sheet.Delivery.{Delivery}
+use Rattle.press_sink.specs.declared.delivery.Delivery.{Delivery}
 use Rattle.press_files.specs.declared.entry_template.EntryTemplate.{EntryTemplate}
 use Rattle.press_files.specs.EntryTemplate.{EntryParts, entry_parts, names_of}
 use Rattle.press_files.specs.Numbering.{occurrences_of, sides_of}

@@ -2,7 +2,7 @@
 use Rattle.std.specs.Prelude.{◌<◌, Bool, List, Some, vec_len, vec_capacity}
 use Rattle.indexmap.specs.IndexMap.{spare}
 use Rattle.press_sink.specs.SinkLog.{SheetLog}
-use Rattle.press_sink.specs.declared.sheet.Delivery.{Delivery}
+use Rattle.press_sink.specs.declared.delivery.Delivery.{Delivery}
 use Rattle.press_files.specs.declared.entry_sheets.EntrySheet.{EntrySheet}
 use Rattle.press_files.specs.declared.entry_sheets.EntrySheets.{EntrySheets}
 use Rattle.press_files.specs.EntryKept.{entry_deliveries_of}

@@ -3,8 +3,8 @@ use Rattle.std.specs.Prelude.{◌≡◌, ◌⊎◌, ℕ, zero, suc, List, [], �
 use Rattle.std.specs.Coded.{Coded, code_by, coded×, coded_ℕ}
 use Rattle.press_cmd.specs.Token.{Token}
 use Rattle.press_cmd.specs.Split.{Closed}
-use Rattle.press_sink.specs.PrintedSheet.{PrintedSheet, printed_sheet_code}
-use Rattle.press_sink.specs.declared.sheet.Delivery.{Delivery}
+use Rattle.press_bits.specs.PrintedSheet.{PrintedSheet, printed_sheet_code}
+use Rattle.press_sink.specs.declared.delivery.Delivery.{Delivery}
 use Rattle.press_sink.specs.SinkLog.{SheetLog, ReplyLog, logs, under}
 use Rattle.press_sink.specs.Sending.{HandsOut, sheets_of, sheets_in}
 use Rattle.press_sink.specs.Outputs.{MadeOutput, IsPrefix, with_outputs, sheet_outputs}

@@ -1,6 +1,6 @@
 -- A folder sink that tells the sheets that it took.
 use Rattle.std.specs.Prelude.{◌≡◌, ℕ, List, Option}
-use Rattle.press_sink.specs.PrintedSheet.{PrintedSheet}
+use Rattle.press_bits.specs.PrintedSheet.{PrintedSheet}
 use Rattle.press_sink.specs.Outputs.{MadeOutput}
 use Rattle.press_sink.specs.Template.{NameParts}
 use Rattle.press_files.specs.Files.{MakesSheets, number_behind}

@@ -1,6 +1,6 @@
 -- The sheets of which the listing keeps what it tells.
 use Rattle.std.specs.Prelude.{ℕ, List, [], ◌∷◌, Option, Some, None}
-use Rattle.press_sink.specs.declared.sheet.Delivery.{Delivery}
+use Rattle.press_sink.specs.declared.delivery.Delivery.{Delivery}
 use Rattle.press_files.specs.declared.held_replies.HeldReplies.{HeldReplies}
 use Rattle.press_files.specs.declared.listed_sheet.ListedSheet.{ListedSheet}
 

@@ -6,8 +6,8 @@ use Rattle.std.specs.Io.KnownBytes.{Appends}
 use Rattle.press_bits.specs.Page.{Page}
 use Rattle.press_cmd.specs.Token.{Token}
 use Rattle.press_cmd.specs.Split.{Closed}
-use Rattle.press_sink.specs.PrintedSheet.{PrintedSheet}
-use Rattle.press_sink.specs.declared.sheet.Delivery.{Delivery}
+use Rattle.press_bits.specs.PrintedSheet.{PrintedSheet}
+use Rattle.press_sink.specs.declared.delivery.Delivery.{Delivery}
 use Rattle.press_sink.specs.SinkLog.{SinkLog, logs, under}
 use Rattle.press_sink.specs.Sending.{Output, HandsOut, sheets_of, sheets_in, reply_bytes_of}
 use Rattle.press_devices.specs.Writing.{AppendsPrefix}

@@ -1,6 +1,6 @@
 -- Numbers of sheets and of sides, each among those of its own entry.
 use Rattle.std.specs.Prelude.{ℕ, ◌+◌, List, [], ◌∷◌, nat_eq, if◌then◌else◌}
-use Rattle.press_sink.specs.declared.sheet.Delivery.{Delivery}
+use Rattle.press_sink.specs.declared.delivery.Delivery.{Delivery}
 use Rattle.press_sink.specs.Template.{side_count}
 
 -- how often an entry stands in a list of entries

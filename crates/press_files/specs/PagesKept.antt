@@ -1,6 +1,6 @@
 -- What a sink of the files of entries' sides keeps.
 use Rattle.std.specs.Prelude.{ℕ, List}
-use Rattle.press_sink.specs.declared.sheet.Delivery.{Delivery}
+use Rattle.press_sink.specs.declared.delivery.Delivery.{Delivery}
 use Rattle.press_files.specs.declared.entry_pages.EntryPages.{EntryPages}
 use Rattle.press_files.specs.declared.entry_sheets.EntrySheets.{EntrySheets}
 use Rattle.press_files.specs.EntrySheets.{deliveries_in}

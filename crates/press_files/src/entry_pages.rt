@@ -3,7 +3,7 @@ ghost use Rattle.std.specs.Prelude.{◌≡◌, ◌≢◌, ◌∷◌, ◌++◌, [
 ghost use Rattle.std.specs.String.{string_bytes};
 ghost use Rattle.press_sink.specs.Outputs.{MakesOutputs, sheet_outputs};
 ghost use Rattle.press_sink.specs.Template.{side_name};
-ghost use Rattle.press_sink.specs.declared.sheet.Delivery.{Delivery};
+ghost use Rattle.press_sink.specs.declared.delivery.Delivery.{Delivery};
 ghost use Rattle.press_files.specs.EntryPages.{KeepsPages, MakesPages, outputs_by, page_output, parts_in};
 ghost use Rattle.press_files.specs.EntrySheets.{deliveries_in, lists_sums};
 ghost use Rattle.press_files.specs.EntryTemplate.{entry_parts, names_of};
@@ -12,8 +12,8 @@ use crate::entry_sheets::EntrySheets;
 use crate::entry_template::EntryTemplate;
 use crate::listed_sheet::ListedSheet;
 use crate::page_lines::page_lines;
-use press_bits::Bitmap;
-use press_sink::{NamedOutputs, Sheet, SheetSink, SinkError, write_page};
+use press_bits::{Bitmap, Sheet};
+use press_sink::{NamedOutputs, SheetSink, SinkError, write_page};
 use std::alloc::{AllocError, Global};
 use std::marker::{Brand, PhantomData};
 

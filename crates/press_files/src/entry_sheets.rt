@@ -6,7 +6,8 @@ ghost use Rattle.press_files.specs.Numbering.{occurrences_of, numbers_after, sid
 
 use crate::listed_sheet::ListedSheet;
 use indexmap::IndexMap;
-use press_sink::{Sheet, SheetSink, SinkError};
+use press_bits::Sheet;
+use press_sink::{SheetSink, SinkError};
 use std::alloc::{AllocError, Global};
 
 /// What the listing tells of a sheet, its number among the sheets of its entry, and the number of its front among their sides; both

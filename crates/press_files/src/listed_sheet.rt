@@ -4,7 +4,7 @@ ghost use Rattle.press_sink.specs.Template.{side_count};
 ghost use Rattle.press_files.specs.Measured.{measures_by};
 
 use crate::measures::Measures;
-use press_sink::Sheet;
+use press_bits::Sheet;
 use std::snapshot::Snapshot;
 
 /// What the listing tells of a sheet, with sums or without, and the tag under which it was delivered. Of the sheet itself clauses alone

@@ -9,8 +9,9 @@ use crate::lent::Loan;
 use crate::listed_sheet::ListedSheet;
 use crate::listing::list_sheet;
 use crate::taken::Taken;
+use press_bits::Sheet;
 use press_devices::{WriteDevice, write_flushed};
-use press_sink::{Sheet, SheetSink, SinkError};
+use press_sink::{SheetSink, SinkError};
 use std::marker::{Brand, PhantomData};
 
 /// A writer that is lent, what it held before its listing, and whether sums are listed. It stands in proofs alone; that of a call says what the writer held.

@@ -1,7 +1,7 @@
 //! The lines that tell the files of entries' sides.
 ghost use Rattle.std.specs.Prelude.{◌≡◌, ◌++◌, List, OnOk, IfOk, Some, length};
 ghost use Rattle.press_sink.specs.Template.{side_name};
-ghost use Rattle.press_sink.specs.declared.sheet.Delivery.{Delivery};
+ghost use Rattle.press_sink.specs.declared.delivery.Delivery.{Delivery};
 ghost use Rattle.press_files.specs.EntryPages.{page_line, page_lines, sheet_page_lines};
 ghost use Rattle.press_files.specs.EntryKept.{ArePlaced, entry_deliveries_of, kept_page_lines};
 ghost use Rattle.press_files.specs.EntryTemplate.{entry_parts, names_of};

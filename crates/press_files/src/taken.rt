@@ -1,5 +1,5 @@
 //! The sheets that a sink took, of which clauses alone know.
-use press_sink::Sheet;
+use press_bits::Sheet;
 use std::marker::Model;
 use std::snapshot::Snapshot;
 
@@ -22,7 +22,7 @@ pub struct Taken {
 impl Model for Taken {
     ghost use Rattle.std.specs.Prelude.{List, [], ◌∷◌, ◌++◌, length};
     ghost use Rattle.std.specs.Option.{option_map_or};
-    ghost use Rattle.press_sink.specs.declared.sheet.Delivery.{Delivery};
+    ghost use Rattle.press_sink.specs.declared.delivery.Delivery.{Delivery};
     ghost use Rattle.press_files.specs.Files.{delivery_code};
     ghost use Rattle.std.specs.Coded.{coded_list};
 

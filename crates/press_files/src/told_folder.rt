@@ -8,7 +8,8 @@ ghost use Rattle.press_files.specs.Files.{MakesSheets, files_told};
 ghost use Rattle.press_files.specs.Folders.{KeepsFolder, folder};
 
 use crate::taken::Taken;
-use press_sink::{FolderSink, NamedOutputs, Sheet, SheetSink, SinkError};
+use press_bits::Sheet;
+use press_sink::{FolderSink, NamedOutputs, SheetSink, SinkError};
 use std::marker::{Brand, PhantomData};
 
 /// A folder: the template by which its outputs are named, what was made before, and whether bytes of outputs waited before. It stands in

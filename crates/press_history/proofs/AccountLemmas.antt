@@ -13,7 +13,7 @@ use Rattle.press_queue.specs.declared.entry.Entry.{Entry}
 use Rattle.press_queue.specs.declared.status.Status.TheVariants as statuses
 use Rattle.press_queue.specs.Rows as rows
 use Rattle.press_queue.specs.Status.{has_ended, new_entry}
-use Rattle.press_sink.specs.PrintedSheet.{PrintedSheet}
+use Rattle.press_bits.specs.PrintedSheet.{PrintedSheet}
 use Rattle.press_ticket.specs.Ticket.{JobTicket}
 use Rattle.press_history.specs.Runs.{Transition}
 use Rattle.press_history.specs.History.{AreFirst, AreGiven, IsPrefix, Seen, both_seen, submitted_by, wanted_of}

@@ -13,7 +13,7 @@ use Rattle.press_queue.specs.Entries.{entry_numbered, place_of, put, with_entry}
 use Rattle.press_queue.specs.Rows as rows
 use Rattle.press_queue.specs.State.{QueueState}
 use Rattle.press_queue.specs.Status.{is_running, new_entry}
-use Rattle.press_sink.specs.PrintedSheet.{PrintedSheet}
+use Rattle.press_bits.specs.PrintedSheet.{PrintedSheet}
 use Rattle.press_ticket.specs.Ticket.{JobTicket}
 use Rattle.press_core.specs.Work.{IsPrintable, Work, new_work, without_job}
 use Rattle.press_core.specs.World.{Consequence, NothingElse, OffEngine, GivenUp, Forgotten, consequence, works_after, works_listed, works_without_job}

@@ -1,6 +1,6 @@
 -- How many engines a press has: as many behind a turn, and behind a command to an entry.
 use Rattle.std.proofs.Common.{◌≡◌, ◌+◌, ◌==◌, ℕ, Bool, true, false, MatchBool, if◌then◌else◌, List, [], length, Option, Some, None, Result, Ok, Err, refl, ap, ◌∙◌}
-use Rattle.press_sink.specs.declared.sheet.Delivery.{Delivery}
+use Rattle.press_sink.specs.declared.delivery.Delivery.{Delivery}
 use Rattle.press_core.specs.declared.turn.Turn.{Turn}
 use Rattle.press_core.specs.declared.turn.TurnError.{TurnError}
 use Rattle.press_core.specs.declared.turn.TurnError.TheVariants.{NoEngine}

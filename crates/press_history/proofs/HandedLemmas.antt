@@ -1,8 +1,8 @@
 -- What was handed out under a number.
 use Rattle.std.proofs.Common.{◌≡◌, ◌++◌, ◌==◌, ℕ, cond, Bool, true, false, List, [], ◌∷◌, filter, refl, ap, arith, rules}
-use Rattle.press_sink.specs.declared.sheet.Delivery.{Delivery}
+use Rattle.press_sink.specs.declared.delivery.Delivery.{Delivery}
 use Rattle.press_sink.specs.Sending.{sheets_in, under_tag}
-use Rattle.press_sink.specs.PrintedSheet.{PrintedSheet}
+use Rattle.press_bits.specs.PrintedSheet.{PrintedSheet}
 use Rattle.press_history.specs.History.{sheets_under}
 
 pub handed-append : (n : ℕ) (one other : List Delivery) → sheets_under n (one ++ other) ≡ sheets_under n one ++ sheets_under n other

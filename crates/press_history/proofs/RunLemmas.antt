@@ -11,8 +11,8 @@ use Rattle.press_engine.specs.Machine.{StepResult}
 use Rattle.press_queue.specs.Entries.{entry_numbered}
 use Rattle.press_queue.specs.EveryQueue.{IsQueue}
 use Rattle.press_queue.specs.QueueLaw.{EachRowKeepsTheQueue}
-use Rattle.press_sink.specs.declared.sheet.Delivery.{Delivery}
-use Rattle.press_sink.specs.PrintedSheet.{PrintedSheet}
+use Rattle.press_sink.specs.declared.delivery.Delivery.{Delivery}
+use Rattle.press_bits.specs.PrintedSheet.{PrintedSheet}
 use Rattle.press_ticket.specs.Ticket.{JobTicket}
 use Rattle.press_core.specs.Engines.{RunsOnEngines, are_engines}
 use Rattle.press_core.specs.Events.{Event, EventAnswer, Happens, Message, Nothing, Operator, Response, TurnOn, Turned}

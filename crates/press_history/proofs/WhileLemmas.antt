@@ -10,8 +10,8 @@ use Rattle.press_queue.specs.Entries.{entry_numbered}
 use Rattle.press_queue.specs.QueueLaw.{EachRowKeepsTheQueue}
 use Rattle.press_queue.specs.Rows as rows
 use Rattle.press_queue.specs.Status.{has_ended}
-use Rattle.press_sink.specs.declared.sheet.Delivery.{Delivery}
-use Rattle.press_sink.specs.PrintedSheet.{PrintedSheet}
+use Rattle.press_sink.specs.declared.delivery.Delivery.{Delivery}
+use Rattle.press_bits.specs.PrintedSheet.{PrintedSheet}
 use Rattle.press_ticket.specs.Ticket.{JobTicket}
 use Rattle.press_core.specs.declared.turn.Turn.{Turn}
 use Rattle.press_core.specs.declared.turn.TurnError.{TurnError}

@@ -9,9 +9,9 @@ use Rattle.press_queue.specs.declared.entry.Entry.{Entry}
 use Rattle.press_queue.specs.declared.status.Status.TheVariants.{Completed}
 use Rattle.press_queue.specs.Entries.{entry_numbered}
 use Rattle.press_queue.specs.Status.{has_ended, is_in_flight}
-use Rattle.press_sink.specs.declared.sheet.Delivery.{Delivery}
+use Rattle.press_sink.specs.declared.delivery.Delivery.{Delivery}
 use Rattle.press_sink.specs.Sending.{sheets_in}
-use Rattle.press_sink.specs.PrintedSheet.{PrintedSheet}
+use Rattle.press_bits.specs.PrintedSheet.{PrintedSheet}
 use Rattle.press_ticket.specs.Ticket.{JobTicket}
 use Rattle.press_writer.specs.Wanted.{wanted}
 use Rattle.press_core.specs.Engines.{is_number}

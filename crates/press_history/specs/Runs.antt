@@ -1,6 +1,6 @@
 -- Runs of events: what happens to a press, one event after another.
 use Rattle.std.specs.Prelude.{◌≡◌, ℕ, List, [], ◌∷◌, IsTrue, Some, ⊤, Ok}
-use Rattle.press_sink.specs.declared.sheet.Delivery.{Delivery}
+use Rattle.press_sink.specs.declared.delivery.Delivery.{Delivery}
 use Rattle.press_core.specs.Engines.{are_engines}
 use Rattle.press_core.specs.Events.{Event, EventAnswer, Response, Turned, Nothing, Happens}
 use Rattle.press_core.specs.World.{World, new_world}

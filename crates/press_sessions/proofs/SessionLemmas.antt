@@ -15,7 +15,7 @@ use Rattle.std.proofs.lemmas.List.Elements.{All-append, All-cons, All-nil}
 use Rattle.press_sink.specs.Outputs.{MadeOutput, with_outputs}
 use Rattle.press_sink.specs.declared.fault.TemplateError.{TemplateError}
 use Rattle.press_sink.specs.declared.fault.TemplateError.TheVariants as template_fault
-use Rattle.press_sink.specs.declared.sheet.Delivery.{Delivery}
+use Rattle.press_sink.specs.declared.delivery.Delivery.{Delivery}
 use Rattle.press_devices.specs.Telling.{Ended, Tells, as_line}
 use Rattle.press_words.specs.Words.{SessionAsked}
 use Rattle.press_core.specs.declared.turn.Turn.{Turn as DoneTurn}

@@ -6,7 +6,7 @@ use Rattle.std.specs.Io.KnownBytes.{Appends}
 use Rattle.press_devices.specs.Writing.{AppendsPrefix}
 use Rattle.press_sink.specs.Outputs.{MadeOutput, with_outputs}
 use Rattle.press_sink.specs.declared.fault.TemplateError.TheVariants as template_fault
-use Rattle.press_sink.specs.declared.sheet.Delivery.{Delivery}
+use Rattle.press_sink.specs.declared.delivery.Delivery.{Delivery}
 use Rattle.press_core.specs.declared.engines.BadEngines.{BadEngines}
 use Rattle.press_core.specs.declared.turn.Turn.{Turn as DoneTurn}
 use Rattle.press_core.specs.declared.turn.TurnError.{TurnError}

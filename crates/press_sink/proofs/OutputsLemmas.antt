@@ -12,7 +12,7 @@ use Rattle.press_sink.specs.declared.list_outputs.ListedOutput.{ListedOutput}
 use Rattle.press_sink.specs.Kept.{output_of, outputs_in}
 use Rattle.press_sink.specs.Outputs.{MadeOutput, opened, holding, with_outputs, last_holds, HoldsPrefix, GivesUp, Closes}
 use Rattle.press_sink.specs.Outputs.{IsCut, IsPrefix, MakesPrefix, MakesOutputs, side_output, back_output, sheet_outputs}
-use Rattle.press_sink.specs.PrintedSheet.{PrintedSheet}
+use Rattle.press_bits.specs.PrintedSheet.{PrintedSheet}
 use Rattle.press_sink.specs.Template.{NameParts, number_after}
 
 -- the output behind others is the last

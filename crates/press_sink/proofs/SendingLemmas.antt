@@ -3,7 +3,7 @@ use Rattle.std.proofs.Common.{◌≡◌, ◌∙◌, ℕ, List, [], ◌∷◌, �
 use Rattle.std.proofs.lemmas.List.{append_assoc, append-nil, map-append}
 use Rattle.std.proofs.KnownBytes.{Appends-nil, Appends-trans}
 use Rattle.std.specs.Io.KnownBytes.{Appends}
-use Rattle.press_sink.specs.PrintedSheet.{PrintedSheet}
+use Rattle.press_bits.specs.PrintedSheet.{PrintedSheet}
 use Rattle.press_sink.specs.SinkLog.{SinkLog, SinkUse, HasFaultRoom, under}
 use Rattle.press_sink.specs.Sending.{Output, Deliver, Reply, Ending, Complete, AtSheet, AtReply, ForMemory, Refused, sheets_of}
 use Rattle.press_sink.specs.Sending.{sheets_in, under_tag, reply_bytes_of, GoesOut, sheet_faults_after, reply_faults_after, WentOut, Took, HandsOut}

@@ -1,7 +1,7 @@
 -- What sinks keep.
 use Rattle.std.specs.Prelude.{ℕ, zero, suc, List, map, Option, Some, None, option_map}
 use Rattle.std.specs.String.{string_bytes}
-use Rattle.press_sink.specs.declared.sheet.Delivery.{Delivery}
+use Rattle.press_sink.specs.declared.delivery.Delivery.{Delivery}
 use Rattle.press_sink.specs.declared.list_sink.ListSink.{ListSink}
 use Rattle.press_sink.specs.declared.list_replies.ListReplies.{ListReplies}
 use Rattle.press_sink.specs.declared.fuse_replies.FuseReplies.{FuseReplies}

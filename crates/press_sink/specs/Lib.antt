@@ -3,7 +3,6 @@ pub mod Faults
 pub mod Kept
 pub mod Outputs
 pub mod Sending
-pub mod PrintedSheet
 pub mod Template
 pub mod SinkLog
 pub use Rattle.press_bits.specs.Page

@@ -1,8 +1,8 @@
 -- Outputs, and how far they went out to the two sinks.
 use Rattle.std.specs.Prelude.{◌≡◌, ◌+◌, ◌++◌, ℕ, List, [], ◌∷◌, map, option_map}
 use Rattle.std.specs.Io.KnownBytes.{Appends}
-use Rattle.press_sink.specs.PrintedSheet.{PrintedSheet}
-use Rattle.press_sink.specs.declared.sheet.Delivery.{Delivery}
+use Rattle.press_bits.specs.PrintedSheet.{PrintedSheet}
+use Rattle.press_sink.specs.declared.delivery.Delivery.{Delivery}
 use Rattle.press_sink.specs.SinkLog.{SinkLog, SinkUse}
 
 -- An output: a sheet to deliver, or the bytes of a reply.

@@ -4,11 +4,10 @@ ghost use Rattle.press_sink.specs.Template.{side_count};
 
 use crate::fault::{SinkError, TemplateError};
 use crate::named_outputs::NamedOutputs;
-use crate::sheet::Sheet;
 use crate::side::{Side, make_side};
 use crate::sink::SheetSink;
 use crate::template::Template;
-use press_bits::Bitmap;
+use press_bits::{Bitmap, Sheet};
 use std::alloc::Global;
 
 /// A sheet sink that makes an output of its own for each side, a P4 file, whose name is a template with the number of the side,

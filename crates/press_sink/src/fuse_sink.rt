@@ -4,8 +4,8 @@ ghost use Rattle.press_sink.specs.SinkLog.{Delivers, most_faults, with_own_fault
 ghost use Rattle.press_sink.specs.Kept.{inner, left_of, left_after, own_faults};
 
 use crate::fault::SinkError;
-use crate::sheet::Sheet;
 use crate::sink::SheetSink;
+use press_bits::Sheet;
 
 /// A sheet sink over another, in which one delivery has a fault of its own: the one after so many others. It is for tests.
 #[derive(Drop)]

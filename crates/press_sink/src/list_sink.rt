@@ -2,9 +2,10 @@
 ghost use Rattle.std.specs.Prelude.{◌≡◌, [], Some};
 ghost use Rattle.press_sink.specs.Kept.{deliveries};
 
+use crate::delivery::Delivery;
 use crate::fault::SinkError;
-use crate::sheet::{Delivery, Sheet};
 use crate::sink::SheetSink;
+use press_bits::Sheet;
 use std::alloc::Global;
 
 /// A sink that keeps every sheet, in the order of delivery. It has no faults.

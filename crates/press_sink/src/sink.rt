@@ -3,7 +3,7 @@ ghost use Rattle.std.specs.Prelude.{◌≡◌, ◌<◌, ℕ};
 ghost use Rattle.press_sink.specs.SinkLog.{SheetLog, ReplyLog, Delivers, TookLast, Replies, most_faults};
 
 use crate::fault::{ReplyError, SinkError};
-use crate::sheet::Sheet;
+use press_bits::Sheet;
 
 /// Where finished sheets go.
 pub trait SheetSink {

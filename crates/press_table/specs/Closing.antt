@@ -7,7 +7,7 @@ use Rattle.press_page.specs.Environment.{asked_page_size, with_page_size, asked_
 use Rattle.press_page.specs.Numbers.{named}
 use Rattle.press_pjl.specs.declared.environment.PjlEnv.{PjlEnv}
 use Rattle.press_sink.specs.Sending.{Reply}
-use Rattle.press_sink.specs.PrintedSheet as sheets
+use Rattle.press_bits.specs.PrintedSheet as sheets
 use Rattle.press_table.specs.declared.effect.EjectCause.{EjectCause}
 use Rattle.press_table.specs.declared.effect.EjectCause.TheVariants as causes
 use Rattle.press_table.specs.declared.effect.PageChange.{PageChange}

@@ -2,7 +2,7 @@
 use Rattle.std.specs.Prelude.{ℕ, zero, suc, List, [], ◌∷◌, ◌++◌, Option, Some, None, option_map}
 use Rattle.std.specs.List.{flat_map}
 use Rattle.press_pjl.specs.Replies.{page_reply}
-use Rattle.press_sink.specs.PrintedSheet.{PrintedSheet}
+use Rattle.press_bits.specs.PrintedSheet.{PrintedSheet}
 use Rattle.press_sink.specs.Sending.{Output, Deliver, Reply}
 use Rattle.press_table.specs.declared.effect.FinishedSheet.{FinishedSheet}
 use Rattle.press_table.specs.declared.effect.Sent.{Sent}

@@ -1,10 +1,9 @@
 //! The page that marks are made on, with the front that waits (PCL 5 Printer Language Technical Reference Manual, The
 //! PCL Print Model).
 
-use press_bits::Bitmap;
+use press_bits::{Bitmap, Sheet};
 use press_canvas::Canvas;
 use press_page::PageSetup;
-use press_sink::Sheet;
 use std::alloc::{AllocError, Global};
 use std::marker::Model;
 

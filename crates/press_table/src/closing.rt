@@ -6,11 +6,10 @@ ghost use Rattle.press_table.specs.Outputs.{all_outputs, finished_of};
 
 use crate::effect::{Effect, EjectCause, FinishedSheet, PageChange, Selection, Sent};
 use crate::state::State;
-use press_bits::Bitmap;
+use press_bits::{Bitmap, Sheet};
 use press_canvas::Canvas;
 use press_page::{DuplexMode, Orientation, PageSize};
 use press_pjl::{PjlEnv, ReplyBytes};
-use press_sink::Sheet;
 use press_units::Value;
 use std::alloc::{AllocError, Global};
 

@@ -4,10 +4,10 @@ ghost use Rattle.std.specs.Prelude.{◌≡◌};
 ghost use Rattle.press_table.specs.Closing.{selection_of};
 
 use crate::calls::SavedEnvironment;
+use press_bits::Sheet;
 use press_cmd::Body;
 use press_page::{DuplexMode, Orientation, PageSize};
 use press_pjl::{PjlEnv, ReplyBytes};
-use press_sink::Sheet;
 
 /// A finished sheet, and how many times it goes out.
 #[derive(Drop)]

@@ -1,6 +1,5 @@
 //! Jobs of tickets: what is printed of them; and the texts of a job's faults.
-use press_bits::{Bitmap, DotRow, Mode};
-use press_sink::Sheet;
+use press_bits::{Bitmap, DotRow, Mode, Sheet};
 use press_stream::JobError;
 use press_theorem::print_ticket;
 use std::alloc::Global;

@@ -1,8 +1,6 @@
 //! Sinks of sheets and of replies.
-use press_bits::Bitmap;
-use press_sink::{
-    Delivery, FuseSink, ListReplies, ListSink, ReplySink, Sheet, SheetSink, SinkError,
-};
+use press_bits::{Bitmap, Sheet};
+use press_sink::{Delivery, FuseSink, ListReplies, ListSink, ReplySink, SheetSink, SinkError};
 use std::alloc::{AllocError, Global};
 use std::process::Abort;
 use std::test::Fail;

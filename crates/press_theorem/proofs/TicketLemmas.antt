@@ -3,7 +3,7 @@ use Rattle.std.proofs.Common.{◌≡◌, ◌∙◌, ℕ, List, [], map, Option, 
 use Rattle.std.proofs.lemmas.Option.{same_Some}
 use Rattle.std.specs.Io.KnownBytes.{Appends}
 use Rattle.press_bits.specs.Page.{Page}
-use Rattle.press_sink.specs.declared.sheet.Delivery.{Delivery}
+use Rattle.press_sink.specs.declared.delivery.Delivery.{Delivery}
 use Rattle.press_engine.specs.declared.machine.Machine.{Machine}
 use Rattle.press_sink.specs.Sending.{Output, Deliver, Complete, HandsOut, sheets_of, reply_bytes_of, under_tag}
 use Rattle.press_sink.specs.SinkLog.{SinkLog, logs, under}

@@ -4,7 +4,7 @@ use Rattle.press_bits.specs.Page.{Page}
 use Rattle.press_cmd.specs.Split.{Closed}
 use Rattle.press_cmd.specs.Token.{Token}
 use Rattle.press_sink.specs.Sending.{sheets_of, reply_bytes_of, under_tag}
-use Rattle.press_sink.specs.declared.sheet.Delivery.{Delivery}
+use Rattle.press_sink.specs.declared.delivery.Delivery.{Delivery}
 use Rattle.press_stream.specs.Meaning.{meaning_of, with_exit}
 use Rattle.press_ticket.specs.Faults as ticket_faults
 use Rattle.press_ticket.specs.Reading.{ticket_in}

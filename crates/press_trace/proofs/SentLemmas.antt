@@ -3,7 +3,7 @@ use Rattle.std.proofs.Common.{◌≡◌, ◌∙◌, ◌+◌, ℕ, zero, suc, Lis
 use Rattle.std.proofs.lemmas.List.{length-append}
 use Rattle.press_units.specs.Limits.{greatest_of_64_bits}
 use Rattle.press_sink.specs.Sending.{Output, sheets_of}
-use Rattle.press_sink.specs.PrintedSheet.{PrintedSheet}
+use Rattle.press_bits.specs.PrintedSheet.{PrintedSheet}
 use Rattle.press_sink.proofs.SendingLemmas.{sheets_of-append}
 use Rattle.press_table.specs.declared.effect.Sent.{Sent}
 use Rattle.press_table.specs.Outputs.{copies_out, copy_out, next_count, all_outputs, outputs_of}

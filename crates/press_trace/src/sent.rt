@@ -5,8 +5,9 @@ ghost use Rattle.press_units.specs.Limits.{greatest_of_64_bits};
 ghost use Rattle.press_sink.specs.Sending.{sheets_of, reply_bytes_of};
 ghost use Rattle.press_table.specs.Outputs.{all_outputs, outputs_of};
 
+use press_bits::Sheet;
 use press_engine::Sent;
-use press_sink::{ListReplies, Sheet, SheetSink, SinkError};
+use press_sink::{ListReplies, SheetSink, SinkError};
 use press_stream::Job;
 use std::alloc::{AllocError, Global};
 

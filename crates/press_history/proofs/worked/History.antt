@@ -6,7 +6,7 @@ use Rattle.press_queue.specs.declared.entry.Entry.{Entry}
 use Rattle.press_queue.specs.declared.status.Status.TheVariants.{Running, Completed, Aborted}
 use Rattle.press_queue.specs.State.{QueueState}
 use Rattle.press_queue.specs.Status.{new_entry}
-use Rattle.press_sink.specs.PrintedSheet.{PrintedSheet}
+use Rattle.press_bits.specs.PrintedSheet.{PrintedSheet}
 use Rattle.press_core.specs.declared.operator.OperatorCommand.TheVariants.{AbortRunning, Continue, Pause}
 use Rattle.press_core.specs.declared.turn.TurnError.TheVariants.{NoEngine, SinkFault}
 use Rattle.press_core.specs.Events.{Event, EventAnswer, Message, Nothing, Operator, Response, TurnOn, Turned}

@@ -2,7 +2,7 @@
 use Rattle.std.proofs.Common.{◌≡◌, [], ◌∷◌, codes, List, Some, None, refl}
 use Rattle.std.specs.Fmt.{digits}
 use Rattle.press_bits.specs.Page.{Page}
-use Rattle.press_sink.specs.PrintedSheet.{PrintedSheet}
+use Rattle.press_bits.specs.PrintedSheet.{PrintedSheet}
 use Rattle.press_sink.specs.Template.{NameParts, side_name, number_after, side_count}
 use Rattle.press_sink.specs.Sending.{Output, Deliver, Reply, AtSheet, AtReply, ForMemory, sheets_of, reply_bytes_of, sheet_faults_after, reply_faults_after}
 

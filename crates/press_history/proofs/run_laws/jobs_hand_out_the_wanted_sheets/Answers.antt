@@ -6,7 +6,7 @@ use Rattle.press_engine.specs.Machine.{power_on}
 use Rattle.press_engine.specs.Trace.{joined}
 use Rattle.press_engine.proofs.FoldLaws.{trace_tells_the_run}
 use Rattle.press_sink.specs.Sending.{Deliver, sheets_of}
-use Rattle.press_sink.specs.PrintedSheet.{PrintedSheet}
+use Rattle.press_bits.specs.PrintedSheet.{PrintedSheet}
 use Rattle.press_stream.specs.Meaning.{meaning_of, with_exit}
 use Rattle.press_writer.specs.Wanted.{wanted}
 use Rattle.press_history.proofs.run_laws.jobs_hand_out_the_wanted_sheets.Goals as goal

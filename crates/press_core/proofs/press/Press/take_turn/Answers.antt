@@ -1,6 +1,6 @@
 use Rattle.std.proofs.Common.{ℕ, List, [], Some, Ok, Err, subst, sym, refl}
 use Rattle.press_units.proofs.ExitLemmas.{exit-is}
-use Rattle.press_sink.specs.declared.sheet.Delivery.{Delivery}
+use Rattle.press_sink.specs.declared.delivery.Delivery.{Delivery}
 use Rattle.press_core.specs.declared.turn.Turn.{Turn}
 use Rattle.press_core.specs.declared.turn.TurnError.TheVariants.{NoMemory}
 use Rattle.press_core.specs.Turns.{TakesTurn, WereHandedOut}

@@ -3,7 +3,7 @@ use Rattle.std.specs.List.{All}
 use Rattle.std.proofs.lemmas.List.{length-map, map_push}
 use Rattle.std.proofs.lemmas.List.Elements.{All-append, All-cons, All-nil}
 use Rattle.press_sink.specs.Template.{side_count}
-use Rattle.press_sink.specs.declared.sheet.Delivery.{Delivery}
+use Rattle.press_sink.specs.declared.delivery.Delivery.{Delivery}
 use Rattle.press_files.specs.declared.entry_sheets.EntryCount.{EntryCount}
 use Rattle.press_files.specs.declared.entry_sheets.EntrySheet.{EntrySheet}
 use Rattle.press_files.specs.EntryKept.{ArePlaced, entries_of, entry_deliveries_of, numbers_of}

@@ -1,6 +1,6 @@
 use Rattle.std.proofs.Common.{◌≡◌, ◌∙◌, ◌+◌, ◌++◌, ◌∷◌, [], length, Bool, sym, ap, subst, arith}
 use mathlib.Core.Logic.{∥∥₁_map}
-use Rattle.press_sink.specs.PrintedSheet.{PrintedSheet}
+use Rattle.press_bits.specs.PrintedSheet.{PrintedSheet}
 use Rattle.press_sink.specs.Sending.{sheets_in}
 use Rattle.press_files.specs.Listed.{delivery_of}
 use Rattle.press_files.specs.Listing.{HasListed, lines_from, sheet_lines}

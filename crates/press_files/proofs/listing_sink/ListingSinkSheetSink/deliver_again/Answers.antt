@@ -1,7 +1,7 @@
 use Rattle.std.proofs.Common.{◌≡◌, ◌∙◌, sym, ap, option_map}
 use Rattle.std.specs.Coded.{Coded-set}
 use mathlib.Core.Logic.{∥∥₁_elim}
-use Rattle.press_sink.specs.declared.sheet.Delivery.{Delivery}
+use Rattle.press_sink.specs.declared.delivery.Delivery.{Delivery}
 use Rattle.press_files.specs.Files.{delivery_code}
 use Rattle.press_files.specs.Listed.{delivery_of}
 use Rattle.press_files.proofs.AgainLemmas.{delivers-listed, kept-last}

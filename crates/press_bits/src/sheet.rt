@@ -1,7 +1,7 @@
 //! Printed sheets (PCL 5 Printer Language Technical Reference Manual, Simplex/Duplex Print command).
 ghost use Rattle.std.specs.Prelude.{◌≡◌, IfOk};
 
-use press_bits::Bitmap;
+use crate::bitmap::Bitmap;
 use std::alloc::AllocError;
 use std::marker::Model;
 
@@ -15,7 +15,7 @@ pub struct Sheet {
 }
 
 impl Model for Sheet {
-    ghost use Rattle.press_sink.specs.PrintedSheet.{PrintedSheet, printed_sheet_code};
+    ghost use Rattle.press_bits.specs.PrintedSheet.{PrintedSheet, printed_sheet_code};
 
     ghost Value = { PrintedSheet };
 
@@ -42,11 +42,4 @@ impl Sheet {
             back,
         })
     }
-}
-
-/// A sheet as it was delivered, under a tag.
-#[derive(Drop)]
-pub struct Delivery {
-    pub tag: u64,
-    pub sheet: Sheet,
 }
