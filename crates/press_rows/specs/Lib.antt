@@ -1,4 +1,4 @@
--- The definitions of the rows of raster graphics under the compression methods, and of the least data for a row.
+-- The definitions of the rows of raster graphics under the compression methods, and of short data for a row.
 pub mod RunLength
 pub mod RunLengthEncoding
 pub mod PackBits
@@ -10,4 +10,3 @@ pub mod Row
 pub mod Blocks
 pub mod BlocksInside
 pub mod Encoding
-pub mod LeastLengths

@@ -6,7 +6,6 @@
 #![tactic(auto)]
 
 mod blocks;
-mod bounds;
 mod compression;
 mod decoder;
 mod delta_row;
