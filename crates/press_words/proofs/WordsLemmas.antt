@@ -24,6 +24,15 @@ value_by_rows found id = first_value-rows found id
 pub values_by_rows : (found : Found) (id : Text) → option_map raw_values (matched_of found id) ≡ all_of id (rows_of found)
 values_by_rows found id = raw_values-rows found id
 
+-- what the rows of the subcommand that was used ask for, by its name
+pub asked-by_rows : {A : Type 0} (used : Option A) (name_of : A → Text) (values_of : A → List Row) (name : Text) (rows : List Row)
+    → Some name ≡ option_map name_of used → Some rows ≡ option_map (λ (one : Text × List Row). one.1) (option_map (λ (one : A). (name_of one, values_of one)) used)
+    → arguments_by name rows ≡ option_and_then (λ (found : Text × List Row). arguments_by found.0 found.1) (option_map (λ (one : A). (name_of one, values_of one)) used)
+asked-by_rows None name_of values_of name rows p q = ap (λ (some : Option Text). option_and_then (λ one. arguments_by one rows) some) p
+asked-by_rows (Some one) name_of values_of name rows p q =
+    ap (λ (some : Option Text). option_and_then (λ text. arguments_by text rows) some) p
+    ∙ ap (λ (some : Option (List Row)). option_and_then (λ all. arguments_by (name_of one) all) some) q
+
 -- a command line with one subcommand more
 pub subcommand_added : (old sub new : Command) (before app : App) → AddsSubcommand old sub new → (out-Command sub).has_globals ≡ false
     → app_of old ≡ before → app_of sub ≡ app → app_of new ≡ with_subcommand before app.top

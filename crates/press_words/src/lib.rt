@@ -3,9 +3,13 @@
 #![tactic(auto)]
 
 mod defaults;
+mod job_words;
 mod lines;
 mod session_words;
+mod shared_words;
+mod stream_words;
 mod subcommands;
+mod text_words;
 mod told_words;
 mod words;
 

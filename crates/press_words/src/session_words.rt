@@ -2,12 +2,13 @@
 ghost use Rattle.std.specs.Prelude.{◌≡◌, IfOk, map, option_map, codes, false};
 ghost use Rattle.clap.specs.Words.{app_of, rule_of, found_of, rows_of, new_app, with_rule};
 ghost use Rattle.clap.specs.declared.builder.command.Command.TheViews.{out-Command};
-ghost use Rattle.press_words.specs.Words.{engines_of, engines_rule, keep_going_rule, playing_app, sums_rule, pages_rule, session_app, session_of};
-ghost use Rattle.press_words.specs.View.{session_seen};
+ghost use Rattle.press_words.specs.Words.{engines_of, engines_rule, keep_going_rule, playing_app, sums_rule, pages_rule, session_app, session_arguments, session_of};
+ghost use Rattle.press_words.specs.View.{request_seen, session_seen};
 
 use crate::lines::number_word;
+use crate::shared_words::{has_flag, sums_flag};
 use crate::subcommands::{Subcommand, bare_command};
-use crate::words::{has_flag, sums_flag};
+use crate::words::{Input, Output, Request};
 use clap::{Arg, ArgAction, ArgMatches, Command};
 use std::alloc::{AllocError, Global};
 
@@ -107,5 +108,16 @@ pub(crate) fn session_of<'a>(matches: &ArgMatches<'a>) -> Option<SessionRequest<
         template: matches.get_str("out"),
         sums: has_flag(matches, "sums"),
         goes_on: has_flag(matches, "keep-going"),
+    })
+}
+
+/// What the matches of `press` ask for. The events stand on standard input.
+pub(crate) fn session_request<'a>(matches: &ArgMatches<'a>) -> Option<Request<'a>>
+    ensures { option_map request_seen result ≡ session_arguments (rows_of (found_of matches.now)) }
+{
+    let session = session_of(matches)?;
+    Some(Request {
+        input: Input::Standard,
+        output: Output::Session(session),
     })
 }
