@@ -12,7 +12,7 @@ from .finding import Finding, counted
 
 TRANSFER = re.compile(rb"\x1b\*b(?:[0-9]+[a-z])*([0-9]{1,5})W")
 BEHIND_A_ROW = {b"\x1b", b"\x0c", b"\r", b"\n", b""}   # what a driver puts behind a row, and the end
-NEXT = b"\x1b*b"
+NEXT, ESC = b"\x1b*b", 0x1B
 LEAST_WRONG = 2                         # rows
 MENDS = 10                              # what is tried leaves at most one wrong row for so many
 LEAST_SEEN = 4096                       # bytes of rows, of which none is above 127
@@ -39,6 +39,9 @@ class Rows(NamedTuple):
         while found := TRANSFER.search(stream, place):
             begins = place = found.end()
             end, count = begins + int(found[1]), count + 1
+            if enough and end < long and stream[end] == ESC:     # as most are
+                size, place = size + end - begins, end
+                continue
             if end > long or stream[end:end + 1] not in BEHIND_A_ROW:
                 wrong, early = wrong + 1, early + (0 <= stream.find(NEXT, begins, end + len(NEXT)) < end)
             else:

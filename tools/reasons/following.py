@@ -49,6 +49,11 @@ class Following:
         self.together = {}                              # those of them that stand together, the last
         self.asking = []                                # fronts that went out alone, until another sheet goes out
         self.moving, self.unplaced = Moving(), Unplaced()
+        run.counts_repeats = self.counts_repeats
+
+    def counts_repeats(self):
+        """Whether it counts which dots rows of no bytes repeat, in what comes next."""
+        return self.white is not False
 
     def hold(self, happening):
         self.held.add(happening.placed.offset)

@@ -538,7 +538,7 @@ class Judge:
         """Each happening with its reason and key, or None, once all that decides them was seen: those that wait for it come later, but `in_order`, where
         what follows waits, too."""
         waiting, held, before = collections.deque(), self.following.held, None
-        for self.next in itertools.chain(self.run.together(), [None]):
+        for self.next in itertools.chain(self.run.together() if in_order else self.run.passing(), [None]):
             if before is not None:
                 met = None if is_plain(before) else self.first_met(before)
                 self.following.go_on(before)

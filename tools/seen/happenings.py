@@ -4,6 +4,7 @@ All of it is read from the lines of the trace, one after another, and none is he
 """
 
 import functools
+import itertools
 import re
 from typing import NamedTuple, Optional
 
@@ -22,8 +23,14 @@ LINE = rb'\{"at":(\d+),"bytes":%s,"depth":0,"last":"%s",%s"sheets":(\d+),"step":
 BYTES = {kind: re.compile(LINE % (b"1", word, b"", b"")) for kind, word in ((commands.Text, b"txt"), (commands.Foreign, b"for"))}
 PATCH = rb'(?:"page":\{"height":\d+,"rows":\["([^\]]*)"\],"width":\d+,"x":(\d+),"y":(\d+)\},)?'
 ROW = re.compile(LINE % (rb"(\d+)", rb"par \*bW", PATCH, rb'(?:"view":\{"raster":\{"rows":(\d+)\}\},)?'))
+# Such rows one behind the other, each of which marks the page; not too many at once. And a method between them, which changes.
+ROWS = re.compile(rb'(?:\{"at":\d+,"bytes":\d+,"depth":0,"last":"par \*bW","page":\{"height":\d+,"rows":\["[^\]]*\],"width":\d+,"x":\d+,"y":\d+\},'
+                  rb'"sheets":\d+,"step":\d+,"view":\{"raster":\{"rows":\d+\}\},"x":-?\d+,"y":-?\d+\}\n){1,100}+')
+PLACES = re.compile(rb'\{"at":(\d+),"bytes":(\d+)')
+METHOD = re.compile(LINE % (rb"\d+", rb"par \*bM", b"", rb'"view":\{"raster":\{"method":[0-3]\}\},'))
 OTHER_KIND = (ord("*"), ord("b"), ord("W"))
 HEAD = re.compile(rb"(?:\x1b\*b)?([^Ww]*)[Ww]")     # of a row, and its value
+SIZED = re.compile(rb"(?:\x1b\*b)?([0-9]{1,4})[Ww]")    # the same, where it is some digits
 
 
 MOST_JOINED, LEAST_SIZE = 1 << 17, 1 << 9    # bytes of what rows change, as they are spelled; and of a row that changes nothing
@@ -224,7 +231,8 @@ class Run:
         self.whole = front + stream
         self.chosen = chosen
         self.who = traced.who(chosen)
-        self.texts, self.text = texts or traced.texts(self.whole, chosen, runs=watch is None), None
+        self.texts, self.text = texts or traced.Texts(self.whole, chosen, runs=watch is None), None
+        self.counts_repeats = lambda: True      # whether it counts which dots rows of no bytes repeat
         self.fields = Fields()
         self.follower = Follower(self.fields.go_on(power_on(chosen)), row_of)
         self.leaves, self.marks, self.watcher = Leaves(), Marks(), sent.Watcher()
@@ -241,14 +249,22 @@ class Run:
         """The same, but of rows that come out whole one behind the other the first alone, and those behind it as one."""
         return self.happenings(True)
 
-    def happenings(self, joins):
+    def passing(self):
+        """The same, for one who asks of those that are one for no more than the last, and that they mark. Nobody may watch."""
+        return self.happenings(True, True)
+
+    def happenings(self, joins, passes=False):
         alone, quick, some, before, size = False, self.watch is None or self.watch_row is not None, [], False, 0
         while True:
+            if passes and before and (row := self.pass_all()) is not None:
+                yield row
             text = self.next_text()
             if quick and (found := ROW.fullmatch(text)) and (self.fields.now.base is self.base or self.takes_rows()):
                 alone, row = False, self.carry_out_row(found)
                 whole = joins and row.sent is sent.WHOLE_ROW and row.before.is_other(row.now)
-                if whole and before:
+                if whole and before and passes:
+                    yield row
+                elif whole and before:
                     some.append(row)
                     size += LEAST_SIZE if row.patch is None else len(row.patch.spelled)
                 if some and (size > MOST_JOINED or not whole):
@@ -337,6 +353,75 @@ class Run:
             command, name, how = known[first]
             yield Happening(Placed(place - shift, size, command), name, how, None, (), (), 0, (), b"", 0, page, 0, resolution, before, sent.NOTHING, True)
 
+    def pass_all(self):
+        """Rows that come out whole behind one that does, and methods between them, as one row: as many as are seen to do so at once; None where none is."""
+        passed, count = None, 0
+        while True:
+            if (row := self.pass_rows()) is not None:
+                passed, count = row, count + row.sent.rows
+            elif METHOD.fullmatch(text := self.next_text()):
+                self.pass_method(text)
+            else:
+                self.text = text
+                break
+        if passed is not None:
+            passed.sent = sent.Sent(count)
+        return passed
+
+    def pass_rows(self):
+        """Rows that come out whole behind one that does, as one: as many as are seen to do so at once; None where none is."""
+        if self.text is not None or not (text := self.texts.stretch(ROWS)):
+            return None
+        last = text.rfind(b"\n", 0, -1) + 1
+        before = self.now_behind(ROW.fullmatch(text, text.rfind(b"\n", 0, last - 1) + 1, last)) if last else self.fields.now
+        some = self.data_of(text, last)
+        count = self.watcher.whole_rows(self.fields.now, before.y, before.row_count, some, self.counts_repeats())
+        if count < len(some):
+            text = self.put_back(text, count)
+        return self.carry_out_rows(text, count) if count else None
+
+    def data_of(self, text, last):
+        """The data of the rows of these lines, of which the last begins there. They stand one behind the other, and say how long they are; where one spells
+        that otherwise, each line tells it."""
+        (place, _), (at, size) = (map(int, PLACES.match(text, start).groups()) for start in (0, last))
+        some, whole = [], self.whole
+        for _ in range(text.count(b"\n")):
+            if (found := SIZED.match(whole, place)) is None:
+                break
+            begins = found.end()
+            place = begins + int(found[1])
+            some.append(whole[begins:place])
+        if place == at + size:
+            return some
+        return [whole[HEAD.match(whole, int(at)).end():int(at) + int(size)] for at, size in PLACES.findall(text)]
+
+    def pass_method(self, text):
+        """A method behind rows, by which those are read that follow."""
+        line = traced.told(text)
+        self.follower.fields, self.row_read = self.fields.go_on(line), None
+        self.placer.before = "par *bM", self.whole[line["at"]:line["at"] + line["bytes"]]
+        self.takes_rows()
+
+    def put_back(self, text, count):
+        """The first lines of some, so many; the others come again."""
+        end = next(itertools.islice(PLACES.finditer(text), count, None)).start()
+        self.texts.back(len(text) - end)
+        return text[:end]
+
+    def carry_out_rows(self, text, count):
+        """Rows within raster graphics which come out whole, of these lines, as one."""
+        last, fields = text.rfind(b"\n", 0, -1) + 1, self.fields
+        if last:
+            fields.now = self.now_behind(ROW.fullmatch(text, text.rfind(b"\n", 0, last - 1) + 1, last))
+            self.marks.page.lay_lines_later(text[:last])
+        return self.carry_out_row(ROW.fullmatch(text, last), sent.Sent(count))
+
+    def now_behind(self, found):
+        """The fields behind a row, of the line that was matched."""
+        *_, sheets, _, count, x, y = found.groups()
+        before = self.fields.now
+        return Now(before.base, int(x), int(y), int(sheets), before.row_count if count is None else int(count))
+
     def takes_rows(self):
         """Whether a row would be carried out, within raster graphics."""
         base = self.fields.now.base
@@ -344,8 +429,8 @@ class Run:
         self.base = base if takes else None
         return takes
 
-    def carry_out_row(self, found):
-        """A row within raster graphics, of the line that was matched."""
+    def carry_out_row(self, found, gone=None):
+        """A row within raster graphics, of the line that was matched, and what it sends, where that is known."""
         at, size, rows, left, top, sheets, step, count, x, y = found.groups()
         place, size, patch, fields = int(at), int(size), None, self.fields
         before, field = fields.now, HEAD.match(self.whole, place)
@@ -353,7 +438,8 @@ class Run:
         data, self.row_read = self.whole[begins:place + size], (place, begins)
         if rows is not None:
             patch = self.marks.page.lay_later(int(left) // 8, int(top), rows)
-        gone = self.watcher.of_rows(before, data, rows is not None)
+        if gone is None:
+            gone = self.watcher.of_rows(before, data, rows is not None, self.counts_repeats())
         if count is not None:
             fields.is_late = True
         now = fields.now = Now(before.base, int(x), int(y), int(sheets), before.row_count if count is None else int(count))

@@ -2,7 +2,9 @@
 
 import collections
 import json
+import re
 from binascii import unhexlify
+from typing import NamedTuple
 
 from .printable import printable
 
@@ -40,6 +42,21 @@ class Patch:
             self.page.lay_waiting()
         return self.left, self.top, self.rows(), self.old
 
+    def lay_on(self, laid):
+        self.old = replaced(laid, self.left, self.top, self.rows())
+
+
+PATCH = re.compile(rb'"page":\{"height":\d+,"rows":\["([^\]]*)"\],"width":\d+,"x":(\d+),"y":(\d+)\}')
+
+
+class Lines(NamedTuple):
+    """Lines of the trace, whose patches wait."""
+    lines: bytes
+
+    def lay_on(self, laid):
+        for rows, left, top in PATCH.findall(self.lines):
+            replaced(laid, int(left) // 8, int(top), rows_of(rows))
+
 
 class Page:
     """The dots of a page: a row is bytes, the most significant bit left, 1 black. Rows are replaced, and never written into. Patches may wait until
@@ -59,8 +76,7 @@ class Page:
     def lay_waiting(self):
         self.size = 0
         while self.waiting:
-            patch = self.waiting.popleft()      # held no longer than somebody else holds it
-            patch.old = replaced(self.laid, patch.left, patch.top, patch.rows())
+            self.waiting.popleft().lay_on(self.laid)      # held no longer than somebody else holds it
 
     def lay_later(self, left, top, spelled):
         """A patch that is laid when the rows are asked for."""
@@ -70,6 +86,13 @@ class Page:
         if self.size > MOST_WAITING:
             self.lay_waiting()
         return patch
+
+    def lay_lines_later(self, lines):
+        """The same of all patches that lines of the trace tell, of which nobody asks what they replaced."""
+        self.waiting.append(Lines(lines))
+        self.size += len(lines)
+        if self.size > MOST_WAITING:
+            self.lay_waiting()
 
     def lay(self, patch):
         """Lays a patch over the page, and gives the rows that it replaced."""

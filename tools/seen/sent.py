@@ -69,6 +69,27 @@ class Seed:
         if reach > self.replaced:
             self.replaced = reach
 
+    def follow_whole(self, method, some, room, wants_bytes):
+        """The next rows, up to one that may reach past so many bytes, or has none where each must have some: how many there are."""
+        reach_in, most, reach, count, is_delta = REACHES[method], self.replaced, 0, 0, method == rows.DELTA_ROW
+        if is_delta and not self.reach <= room >= most:
+            return 0
+        for data in some:
+            if data:
+                if (reach := reach_in(data)) > room:
+                    break
+                if reach > most:
+                    most = reach
+            elif wants_bytes:
+                break
+            count += 1
+        if is_delta:
+            self.waiting += [(method, data) for data in some[:count] if data]
+            self.replaced = most
+        elif count:
+            self.follow(method, some[count - 1])
+        return count
+
     def fits(self, room):
         """Whether no dot is lost of as many bytes as it may reach; of a row by itself these are counted where it could be too many."""
         if self.reach <= room >= self.replaced:
@@ -101,6 +122,7 @@ def by_itself(method, data):
     return rows.decode(method, data, WHITE)
 
 
+@functools.lru_cache(maxsize=64)     # so does the next row of a picture that is not as fine as the page
 def reach_of(data):
     """How many bytes from the left a delta row replaces at most."""
     place = reach = 0
@@ -160,7 +182,8 @@ class Watcher:
             self.seed.clear()
         return NOTHING
 
-    def of_rows(self, now, data, marks):
+    def of_rows(self, now, data, marks, counts_repeats=True):
+        """What rows send, of rows of no bytes also how much they repeat, where that counts."""
         base, y, count, seed = now.base, now.y, now.row_count, self.seed
         if count == 0 or not base["raster_on"]:
             seed.clear()
@@ -177,7 +200,7 @@ class Watcher:
                 return WHOLE_ROW
             return self.of_followed(strip, y, method, data, marks)
         if method != rows.ADAPTIVE:
-            return self.of_row(strip, y, count, method, data, marks)
+            return self.of_row(strip, y, count, method, data, marks, counts_repeats)
         sent = NOTHING
         for method, each in rows_of(data):
             if method is None:
@@ -201,7 +224,7 @@ class Watcher:
         strip.base = base
         return strip
 
-    def of_row(self, strip, y, count, method, data, marks):
+    def of_row(self, strip, y, count, method, data, marks, counts_repeats=True):
         """What a row sends that goes to this place; of one that marks the page, and loses none, its dots are not counted."""
         if strip.height is not None and count >= strip.height:
             return LATE_ROW
@@ -209,17 +232,25 @@ class Watcher:
         seed.follow(method, data)
         if data and marks and seed.reach <= strip.bytes >= seed.replaced and y < strip.end:
             return WHOLE_ROW
-        return self.of_followed(strip, y, method, data, marks)
+        return self.of_followed(strip, y, method, data, marks, counts_repeats)
 
-    def of_followed(self, strip, y, method, data, marks):
+    def of_followed(self, strip, y, method, data, marks, counts_repeats=True):
         """The same, behind the seed row, where dots may be lost."""
         seed, room = self.seed, strip.bytes
-        again = seed.count_black() if not data and method == rows.DELTA_ROW else 0
+        again = seed.count_black() if counts_repeats and not data and method == rows.DELTA_ROW else 0
         if seed.is_white() or marks and y < strip.end and seed.fits(room):
             sent = WHOLE_ROW
         else:
             sent = strip.sent(y, seed.decoded())
         return sent._replace(again=again) if again else sent
+
+    def whole_rows(self, now, lowest, last, some, counts_repeats):
+        """How many of these rows of data behind a row, which mark the page one behind the other, come out whole as surely as that is seen at once. `lowest` is
+        where the last of them goes, and `last` its number."""
+        strip, method = self.strip_of(now), now.base["method"]
+        if method == rows.ADAPTIVE or lowest >= strip.end or strip.height is not None and last >= strip.height or not now.row_count:
+            return 0
+        return self.seed.follow_whole(method, some, strip.bytes, counts_repeats or method != rows.DELTA_ROW)
 
 
 def rows_of(data):

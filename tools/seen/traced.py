@@ -15,14 +15,58 @@ def who(chosen=program.PROGRAM):
     return f"{program.who(chosen)}, by press trace"
 
 
-def texts(stream, chosen=program.PROGRAM, runs=False):
+class Texts:
     """The lines as they stand, one after another; steps that do no more than count in runs, where that is asked for."""
+
+    def __init__(self, stream, chosen=program.PROGRAM, runs=False):
+        self.pieces, self.held, self.place = pieces(stream, chosen, runs), b"", 0
+
+    def __iter__(self):
+        return self
+
+    def __next__(self):
+        while not (end := self.held.find(b"\n", self.place) + 1):
+            if not self.read():
+                end = len(self.held)
+                break
+        if end == self.place:
+            raise StopIteration
+        text, self.place = self.held[self.place:end], end
+        return text
+
+    def read(self):
+        """Reads on; False at the end."""
+        piece = next(self.pieces, b"")
+        self.held, self.place = self.held[self.place:] + piece, 0
+        return bool(piece)
+
+    def stretch(self, pattern):
+        """The lines that come next and that a pattern of lines matches, of those that are read; empty where it matches none."""
+        if self.place == len(self.held):
+            self.read()
+        found = pattern.match(self.held, self.place)
+        if found is None:
+            return b""
+        self.place = found.end()
+        return found[0]
+
+    def back(self, size):
+        """So many bytes that were given last come again."""
+        self.place -= size
+
+    def close(self):
+        self.pieces.close()
+
+
+def pieces(stream, chosen, runs):
+    """What the program says of a stream, as it comes."""
     chosen = program.answering(chosen)
     with tempfile.TemporaryFile() as given, tempfile.TemporaryFile() as said:
         given.write(stream)
         given.seek(0)
         with subprocess.Popen([chosen, "trace", *["--runs"][:runs], "-"], stdin=given, stdout=subprocess.PIPE, stderr=said, bufsize=AT_ONCE) as running:
-            yield from running.stdout
+            while piece := running.stdout.read1(AT_ONCE):
+                yield piece
         if running.returncode:
             said.seek(0)
             raise OSError(f"press trace: {said.read().decode(errors='replace').strip()}")
@@ -35,4 +79,4 @@ def told(text):
 
 def lines(stream, chosen=program.PROGRAM):
     """What each line tells."""
-    return map(told, texts(stream, chosen))
+    return map(told, Texts(stream, chosen))
