@@ -1,9 +1,9 @@
 """What each command leaves as it is: a prelude that puts every field to another value than a reset does, one command, and a probe.
 
 The prelude stands with a mark on the page, raster graphics and a waiting front each there or not; with all three the command also stands in a macro that is
-executed, in one that is called, and in an overlay. Of each stream the whole trace is wanted, but for how large its boxes are, and the listing; leaves.txt has
-the digest of both (seen/effects.py), which the model made: `tools/pinned --write-leaves` writes it. Streams are spelled as in `pages`. Those of
-`values` stand behind them.
+executed, in one that is called, and in an overlay. Of each stream the whole trace is wanted, but for how large its boxes are, and the listing. leaves.txt has
+a line for each command, with the digest of both (seen/effects.py) of each of its streams, which the model made: `tools/pinned --write-leaves` writes it.
+Streams are spelled as in `pages`. Those of `values` stand behind them.
 """
 
 from pathlib import Path
@@ -57,10 +57,16 @@ def streams():
 STREAMS = dict(streams()) | values.STREAMS
 
 
-def wanted():
-    """The digest of what is told of each stream."""
-    return dict(reversed(line.split(" ", 1)) for line in PATH.read_text(encoding="utf-8").splitlines()) if PATH.exists() else {}
+def command_of(shows):
+    """What a line of leaves.txt begins with, for what a row shows."""
+    return shows.split(", ")[0]
 
 
-WANTED = wanted()
-ROWS = [(name, stream, WANTED.get(name, "none")) for name, stream in STREAMS.items()]
+def rows():
+    """What each row shows, its stream, and the digest of what is told of that."""
+    told = (line.split(": ") for line in PATH.read_text(encoding="utf-8").splitlines())
+    digests = {name: iter(some.split(" ")) for name, some in told}
+    return [(shows, stream, next(digests.get(command_of(shows), iter(())), "none")) for shows, stream in STREAMS.items()]
+
+
+ROWS = rows()

@@ -75,7 +75,7 @@ def sees(sentence):
     table.row_of = lambda command: spoiled(row, field) if (row := real(command)) is not None and row.name == name else row
     try:
         for shows, stream, wanted in leaves.ROWS:
-            if shows.split(", ")[0] in commands and is_seen(stream, wanted, real):
+            if leaves.command_of(shows) in commands and is_seen(stream, wanted, real):
                 return shows
     finally:
         table.row_of = real
@@ -121,4 +121,7 @@ def drawn(seed, count):
 
 def write():
     """Has the model make what the rows want."""
-    leaves.PATH.write_text("".join(f"{digest(stream)} {name}\n" for name, stream in leaves.STREAMS.items()), encoding="utf-8")
+    found = {}
+    for shows, stream in leaves.STREAMS.items():
+        found.setdefault(leaves.command_of(shows), []).append(digest(stream))
+    leaves.PATH.write_text("".join(f"{command}: {' '.join(some)}\n" for command, some in found.items()), encoding="utf-8")

@@ -5,7 +5,7 @@ import json
 
 from .patches import Open
 
-DIGITS = 12
+DIGITS = 10
 
 
 def turned(patch, old):
