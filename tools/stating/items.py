@@ -6,6 +6,8 @@ import json
 import re
 from typing import NamedTuple
 
+from asked import told as texts
+
 SHOWN = 100      # characters of a clause that are told
 CLAUSE = re.compile(r"\b(requires|ensures)\b( \w+)?\s*\{")
 FUNCTION = re.compile(r"^( *)(pub )?(?:const )?(?:unsafe )?fn (\w+)", re.MULTILINE)
@@ -97,9 +99,8 @@ def gate(root):
 
 def told(root):
     """The texts of help and of refusals, in the order in which they are kept."""
-    for text in re.split(r"(?m)^(?=\$ )", (root / "tools/asked/told.txt").read_text()):
-        if text.strip():
-            yield Item("told", text.splitlines()[0], text)
+    for words, text in texts.texts(root / "tools/asked/told.txt").items():
+        yield Item("told", texts.MARK + words, f"{texts.MARK}{words}\n{text.decode()}")
 
 
 def counts(root):
