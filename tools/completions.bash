@@ -52,20 +52,7 @@ _why() {
 }
 complete -o filenames -F _press press ./press
 complete -o filenames -F _why tools/why
-_network() {
-  local word="${COMP_WORDS[COMP_CWORD]}"
-  if [ "${COMP_WORDS[0]}" = tools/scrub ] && [[ "$word" == -* ]]; then
-    mapfile -t COMPREPLY < <(compgen -W "--pass --sides --bytes --seconds --memory --default" -- "$word")
-  elif [ "${COMP_WORDS[0]}" = tools/jmf ] && [[ "$word" == -* ]]; then
-    mapfile -t COMPREPLY < <(compgen -W "--port --listen --files --bytes --requests --idle --seconds --sides --images" -- "$word")
-  elif [[ "$word" == -* ]]; then
-    mapfile -t COMPREPLY < <(compgen -W "--port --listen --jobs --bytes --sides --idle --seconds --memory --default" -- "$word")
-  else
-    mapfile -t COMPREPLY < <(compgen -f -- "$word")
-  fi
-}
-complete -o filenames -F _network tools/printer tools/scrub tools/jmf
-# the tools that take streams
+# the tools that take streams, and those at a network
 _streams() {
   local word="${COMP_WORDS[COMP_CWORD]}"
   if [ "${COMP_WORDS[COMP_CWORD-1]}" = --default ]; then
@@ -79,3 +66,4 @@ _streams() {
   fi
 }
 complete -o filenames -F _streams tools/explain tools/show tools/step tools/pictures tools/differ tools/matches tools/shrink tools/regress
+complete -o filenames -F _streams tools/printer tools/scrub tools/jmf
