@@ -1,140 +1,63 @@
 """Lines of the job language, each behind a universal exit, and their replies; every list begins with a press that is powered on."""
 
+import itertools
+
 EXIT = b"\x1b%-12345X"
 
-COPIES = [
-    (b"@PJL SET COPIES=2\n", b""),
-    (b"@PJL INQUIRE COPIES\r\n", b"@PJL INQUIRE COPIES\r\n2\r\n\x0c"),
-    (b"@PJL Set Copies = 999\r\n", b""),
-    (b"@PJL INQUIRE COPIES\r\n", b"@PJL INQUIRE COPIES\r\n999\r\n\x0c"),
-    (b"@PJL\tset\tcopies\t=\t0042 \t\n", b""),
-    (b"@PJL INQUIRE COPIES\r\n", b"@PJL INQUIRE COPIES\r\n42\r\n\x0c"),
-    (b"@PJL SET COPIES=1\n", b""),
-    (b"@PJL INQUIRE COPIES\r\n", b"@PJL INQUIRE COPIES\r\n1\r\n\x0c"),
-    (b"@PJL Set Copies = 0000000000000000000000000000007\r\n", b""),
-    (b"@PJL INQUIRE COPIES\r\n", b"@PJL INQUIRE COPIES\r\n7\r\n\x0c"),
-    (b"@PJL SET COPIES=0\n", b""),
-    (b"@PJL SET COPIES=1000\n", b""),
-    (b"@PJL SET COPIES=x\n", b""),
-    (b"@PJL SET COPIES=+3\n", b""),
-    (b"@PJL SET COPIES=3x\n", b""),
-    (b"@PJL SET COPIES=1 2\n", b""),
-    (b"@PJL SET COPIES=-1\n", b""),
-    (b"@PJL SET COPIES=18446744073709551617\n", b""),
-    (b"@PJL SET COPIES=\n", b""),
-    (b"@PJL INQUIRE copies\n", b"@PJL INQUIRE COPIES\r\n7\r\n\x0c"),
-    (b"@PJL DINQUIRE COPIES\n", b"@PJL DINQUIRE COPIES\r\n1\r\n\x0c"),
-]
+# A variable is set by letters of either case, between spaces and tabs, up to either end of a line.
+SPELLED = [(b"@PJL SET %s=%s\n", bytes.upper, bytes.upper), (b"@PJL Set %s = %s\r\n", bytes.title, bytes.lower),
+           (b"@PJL\tset\t%s\t=\t%s \t\n", bytes.lower, bytes.title)]
 
-PAPER = [
-    (b"@PJL SET PAPER=LEGAL\n", b""),
-    (b"@PJL INQUIRE PAPER\r\n", b"@PJL INQUIRE PAPER\r\nLEGAL\r\n\x0c"),
-    (b"@PJL Set Paper = a4\r\n", b""),
-    (b"@PJL INQUIRE PAPER\r\n", b"@PJL INQUIRE PAPER\r\nA4\r\n\x0c"),
-    (b"@PJL\tset\tpaper\t=\tExecutive \t\n", b""),
-    (b"@PJL INQUIRE PAPER\r\n", b"@PJL INQUIRE PAPER\r\nEXECUTIVE\r\n\x0c"),
-    (b"@PJL SET PAPER=LEDGER\n", b""),
-    (b"@PJL INQUIRE PAPER\r\n", b"@PJL INQUIRE PAPER\r\nLEDGER\r\n\x0c"),
-    (b"@PJL Set Paper = a3\r\n", b""),
-    (b"@PJL INQUIRE PAPER\r\n", b"@PJL INQUIRE PAPER\r\nA3\r\n\x0c"),
-    (b"@PJL\tset\tpaper\t=\tLetter \t\n", b""),
-    (b"@PJL INQUIRE PAPER\r\n", b"@PJL INQUIRE PAPER\r\nLETTER\r\n\x0c"),
-    (b"@PJL SET PAPER=A4\n", b""),
-    (b"@PJL INQUIRE PAPER\r\n", b"@PJL INQUIRE PAPER\r\nA4\r\n\x0c"),
-    (b"@PJL SET PAPER=B5\n", b""),
-    (b"@PJL SET PAPER=LETTERS\n", b""),
-    (b"@PJL SET PAPER=A\n", b""),
-    (b"@PJL SET PAPER=\n", b""),
-    (b"@PJL INQUIRE paper\n", b"@PJL INQUIRE PAPER\r\nA4\r\n\x0c"),
-    (b"@PJL DINQUIRE PAPER\n", b"@PJL DINQUIRE PAPER\r\nLETTER\r\n\x0c"),
-]
 
-ORIENTATION = [
-    (b"@PJL SET ORIENTATION=LANDSCAPE\n", b""),
-    (b"@PJL INQUIRE ORIENTATION\r\n", b"@PJL INQUIRE ORIENTATION\r\nLANDSCAPE\r\n\x0c"),
-    (b"@PJL Set Orientation = portrait\r\n", b""),
-    (b"@PJL INQUIRE ORIENTATION\r\n", b"@PJL INQUIRE ORIENTATION\r\nPORTRAIT\r\n\x0c"),
-    (b"@PJL\tset\torientation\t=\tLandscape \t\n", b""),
-    (b"@PJL INQUIRE ORIENTATION\r\n", b"@PJL INQUIRE ORIENTATION\r\nLANDSCAPE\r\n\x0c"),
-    (b"@PJL SET ORIENTATION=UP\n", b""),
-    (b"@PJL SET ORIENTATION=REVERSE LANDSCAPE\n", b""),
-    (b"@PJL INQUIRE orientation\n", b"@PJL INQUIRE ORIENTATION\r\nLANDSCAPE\r\n\x0c"),
-    (b"@PJL DINQUIRE ORIENTATION\n", b"@PJL DINQUIRE ORIENTATION\r\nPORTRAIT\r\n\x0c"),
-]
+def asks(question, name, value, end=b"\n"):
+    """A question for a variable, and its value."""
+    return b"@PJL %s %s%s" % (question, name, end), b"@PJL %s %s\r\n%s\r\n\f" % (question, name.upper(), value)
 
-DUPLEX = [
-    (b"@PJL SET DUPLEX=ON\n", b""),
-    (b"@PJL INQUIRE DUPLEX\r\n", b"@PJL INQUIRE DUPLEX\r\nON\r\n\x0c"),
-    (b"@PJL Set Duplex = off\r\n", b""),
-    (b"@PJL INQUIRE DUPLEX\r\n", b"@PJL INQUIRE DUPLEX\r\nOFF\r\n\x0c"),
-    (b"@PJL\tset\tduplex\t=\tOn \t\n", b""),
-    (b"@PJL INQUIRE DUPLEX\r\n", b"@PJL INQUIRE DUPLEX\r\nON\r\n\x0c"),
-    (b"@PJL SET DUPLEX=MAYBE\n", b""),
-    (b"@PJL SET DUPLEX=TRUE\n", b""),
-    (b"@PJL INQUIRE duplex\n", b"@PJL INQUIRE DUPLEX\r\nON\r\n\x0c"),
-    (b"@PJL DINQUIRE DUPLEX\n", b"@PJL DINQUIRE DUPLEX\r\nOFF\r\n\x0c"),
-]
 
-BINDING = [
-    (b"@PJL SET BINDING=SHORTEDGE\n", b""),
-    (b"@PJL INQUIRE BINDING\r\n", b"@PJL INQUIRE BINDING\r\nSHORTEDGE\r\n\x0c"),
-    (b"@PJL Set Binding = longedge\r\n", b""),
-    (b"@PJL INQUIRE BINDING\r\n", b"@PJL INQUIRE BINDING\r\nLONGEDGE\r\n\x0c"),
-    (b"@PJL\tset\tbinding\t=\tShortedge \t\n", b""),
-    (b"@PJL INQUIRE BINDING\r\n", b"@PJL INQUIRE BINDING\r\nSHORTEDGE\r\n\x0c"),
-    (b"@PJL SET BINDING=LONG\n", b""),
-    (b"@PJL SET BINDING=SHORT EDGE\n", b""),
-    (b"@PJL INQUIRE binding\n", b"@PJL INQUIRE BINDING\r\nSHORTEDGE\r\n\x0c"),
-    (b"@PJL DINQUIRE BINDING\n", b"@PJL DINQUIRE BINDING\r\nLONGEDGE\r\n\x0c"),
-]
+def both(name, value, default):
+    """Both questions for a variable."""
+    return asks(b"INQUIRE", name, value), asks(b"DINQUIRE", name, default)
 
-RESOLUTION = [
-    (b"@PJL SET RESOLUTION=300\n", b""),
-    (b"@PJL INQUIRE RESOLUTION\r\n", b"@PJL INQUIRE RESOLUTION\r\n300\r\n\x0c"),
-    (b"@PJL Set Resolution = 600\r\n", b""),
-    (b"@PJL INQUIRE RESOLUTION\r\n", b"@PJL INQUIRE RESOLUTION\r\n600\r\n\x0c"),
-    (b"@PJL SET RESOLUTION=0300\n", b""),
-    (b"@PJL SET RESOLUTION=450\n", b""),
-    (b"@PJL SET RESOLUTION=1200\n", b""),
-    (b"@PJL SET RESOLUTION=\n", b""),
-    (b"@PJL INQUIRE resolution\n", b"@PJL INQUIRE RESOLUTION\r\n600\r\n\x0c"),
-    (b"@PJL DINQUIRE RESOLUTION\n", b"@PJL DINQUIRE RESOLUTION\r\n300\r\n\x0c"),
-    (b"@PJL SET FOO=1\n", b""),
-    (b"@PJL SET COPIES\n", b""),
-    (b"@PJL SET =3\n", b""),
-    (b"@PJL SET\n", b""),
-    (b"@PJL SET COPIES=3=3\n", b""),
-]
+
+def sets(name, values, wrong, factory):
+    """A variable that is set to some values, spelled in turn, each of which is told then; what is wrong leaves the last one, and the default is as before."""
+    lines = []
+    for (line, of_name, of_value), value in zip(itertools.cycle(SPELLED), values):
+        told = value.lstrip(b"0") if value.isdigit() else value
+        lines += [(line % (of_name(name), of_value(value)), b""), asks(b"INQUIRE", name, told, b"\r\n")]
+    lines += [(b"@PJL SET %s=%s\n" % (name, value), b"") for value in wrong]
+    return [*lines, asks(b"INQUIRE", name.lower(), told), asks(b"DINQUIRE", name, factory)]
+
+
+COPIES = sets(b"COPIES", [b"2", b"999", b"0042", b"1", b"0" * 30 + b"7"], [b"0", b"1000", b"x", b"+3", b"3x", b"1 2", b"-1", b"18446744073709551617", b""], b"1")
+PAPER = sets(b"PAPER", [b"LEGAL", b"A4", b"EXECUTIVE", b"LEDGER", b"A3", b"LETTER", b"A4"], [b"B5", b"LETTERS", b"A", b""], b"LETTER")
+ORIENTATION = sets(b"ORIENTATION", [b"LANDSCAPE", b"PORTRAIT", b"LANDSCAPE"], [b"UP", b"REVERSE LANDSCAPE"], b"PORTRAIT")
+DUPLEX = sets(b"DUPLEX", [b"ON", b"OFF", b"ON"], [b"MAYBE", b"TRUE"], b"OFF")
+BINDING = sets(b"BINDING", [b"SHORTEDGE", b"LONGEDGE", b"SHORTEDGE"], [b"LONG", b"SHORT EDGE"], b"LONGEDGE")
+RESOLUTION = sets(b"RESOLUTION", [b"300", b"600"], [b"0300", b"450", b"1200", b""], b"300")
+RESOLUTION += [(b"@PJL SET FOO=1\n", b""), (b"@PJL SET COPIES\n", b""), (b"@PJL SET =3\n", b""), (b"@PJL SET\n", b""), (b"@PJL SET COPIES=3=3\n", b"")]
 
 DEFAULTS = [
     (b"@PJL DEFAULT COPIES=5\n", b""),
-    (b"@PJL INQUIRE COPIES\n", b"@PJL INQUIRE COPIES\r\n1\r\n\x0c"),
-    (b"@PJL DINQUIRE COPIES\n", b"@PJL DINQUIRE COPIES\r\n5\r\n\x0c"),
+    *both(b"COPIES", b"1", b"5"),
     (b"@PJL SET PAPER=A3\n", b""),
-    (b"@PJL INQUIRE PAPER\n", b"@PJL INQUIRE PAPER\r\nA3\r\n\x0c"),
-    (b"@PJL DINQUIRE PAPER\n", b"@PJL DINQUIRE PAPER\r\nLETTER\r\n\x0c"),
+    *both(b"PAPER", b"A3", b"LETTER"),
     (b"@PJL RESET\n", b""),
-    (b"@PJL INQUIRE COPIES\n", b"@PJL INQUIRE COPIES\r\n5\r\n\x0c"),
-    (b"@PJL DINQUIRE COPIES\n", b"@PJL DINQUIRE COPIES\r\n5\r\n\x0c"),
-    (b"@PJL INQUIRE PAPER\n", b"@PJL INQUIRE PAPER\r\nLETTER\r\n\x0c"),
-    (b"@PJL DINQUIRE PAPER\n", b"@PJL DINQUIRE PAPER\r\nLETTER\r\n\x0c"),
+    *both(b"COPIES", b"5", b"5"),
+    *both(b"PAPER", b"LETTER", b"LETTER"),
     (b"@PJL DEFAULT DUPLEX=ON\r\n", b""),
     (b"@PJL job NAME = \"x\"\n", b""),
-    (b"@PJL INQUIRE DUPLEX\n", b"@PJL INQUIRE DUPLEX\r\nON\r\n\x0c"),
-    (b"@PJL DINQUIRE DUPLEX\n", b"@PJL DINQUIRE DUPLEX\r\nON\r\n\x0c"),
+    *both(b"DUPLEX", b"ON", b"ON"),
     (b"@PJL DEFAULT copies = 1\n", b""),
     (b"@PJL DEFAULT COPIES=0\n", b""),
     (b"@PJL EOJ\tNAME\n", b""),
-    (b"@PJL INQUIRE COPIES\n", b"@PJL INQUIRE COPIES\r\n1\r\n\x0c"),
-    (b"@PJL DINQUIRE COPIES\n", b"@PJL DINQUIRE COPIES\r\n1\r\n\x0c"),
+    *both(b"COPIES", b"1", b"1"),
     (b"@PJL SET BINDING=SHORTEDGE\n", b""),
     (b"@PJL INITIALIZE x\n", b""),
-    (b"@PJL INQUIRE BINDING\n", b"@PJL INQUIRE BINDING\r\nSHORTEDGE\r\n\x0c"),
+    asks(b"INQUIRE", b"BINDING", b"SHORTEDGE"),
     (b"@PJL INITIALIZE \t\r\n", b""),
-    (b"@PJL INQUIRE BINDING\n", b"@PJL INQUIRE BINDING\r\nLONGEDGE\r\n\x0c"),
-    (b"@PJL DINQUIRE BINDING\n", b"@PJL DINQUIRE BINDING\r\nLONGEDGE\r\n\x0c"),
-    (b"@PJL INQUIRE DUPLEX\n", b"@PJL INQUIRE DUPLEX\r\nOFF\r\n\x0c"),
-    (b"@PJL DINQUIRE DUPLEX\n", b"@PJL DINQUIRE DUPLEX\r\nOFF\r\n\x0c"),
+    *both(b"BINDING", b"LONGEDGE", b"LONGEDGE"),
+    *both(b"DUPLEX", b"OFF", b"OFF"),
 ]
 
 OTHERS = [
@@ -154,8 +77,7 @@ OTHERS = [
     (b"@PJL LSET COPIES=9\n", b""),
     (b"@PJL USTATUS PAGE\n", b""),
     (b"@PJL USTATUS JOB=ON\n", b""),
-    (b"@PJL INQUIRE COPIES\n", b"@PJL INQUIRE COPIES\r\n1\r\n\x0c"),
-    (b"@PJL DINQUIRE COPIES\n", b"@PJL DINQUIRE COPIES\r\n1\r\n\x0c"),
+    *both(b"COPIES", b"1", b"1"),
 ]
 
 QUERIES = [
@@ -180,18 +102,12 @@ QUERIES = [
 LONGEST = [(b"@PJL ECHO " + b"x" * 4085 + b"\n", b"@PJL ECHO " + b"x" * 4085 + b"\r\n\x0c")]
 
 # each variable, its factory value and another one
-VARIABLES = [("COPIES", "1", "7"), ("PAPER", "LETTER", "A4"), ("ORIENTATION", "PORTRAIT", "LANDSCAPE"), ("DUPLEX", "OFF", "ON"), ("BINDING", "LONGEDGE", "SHORTEDGE"),
-             ("RESOLUTION", "300", "600")]
-
-
-def inquired(values):
-    """Both questions for each variable, whose answer is the same."""
-    return [(f"@PJL {question} {name}\n".encode(), f"@PJL {question} {name}\r\n{value}\r\n\f".encode()) for name, value in values for question in ("INQUIRE", "DINQUIRE")]
-
-
+VARIABLES = [(b"COPIES", b"1", b"7"), (b"PAPER", b"LETTER", b"A4"), (b"ORIENTATION", b"PORTRAIT", b"LANDSCAPE"), (b"DUPLEX", b"OFF", b"ON"),
+             (b"BINDING", b"LONGEDGE", b"SHORTEDGE"), (b"RESOLUTION", b"300", b"600")]
 # a default of each, which becomes the current value, and the factory values again
-EACH = [*((f"@PJL DEFAULT {name}={other}\n".encode(), b"") for name, _, other in VARIABLES), (b"@PJL RESET\n", b""), *inquired([(name, other) for name, _, other in VARIABLES]),
-        (b"@PJL INITIALIZE\n", b""), *inquired([(name, factory) for name, factory, _ in VARIABLES])]
+EACH = [*((b"@PJL DEFAULT %s=%s\n" % (name, other), b"") for name, _, other in VARIABLES),
+        (b"@PJL RESET\n", b""), *(line for name, _, other in VARIABLES for line in both(name, other, other)),
+        (b"@PJL INITIALIZE\n", b""), *(line for name, factory, _ in VARIABLES for line in both(name, factory, factory))]
 
 LISTS = [COPIES, PAPER, ORIENTATION, DUPLEX, BINDING, RESOLUTION, DEFAULTS, OTHERS, QUERIES, LONGEST, EACH]
 ROWS = [("", 0, b"".join(reply for _, reply in lines), b"".join(EXIT + line for line, _ in lines)) for lines in LISTS]
