@@ -50,18 +50,24 @@ def end(tool, counts, complaints, whole=True, most=None):
     return tell(tool, counts, len(complaints), whole)
 
 
-def part_words(about, parts):
-    """The words of a tool that tries its parts with the program."""
+def part_words(about, parts, with_program=True):
+    """The words of a tool that tries its parts, most often with the program."""
     words = argparse.ArgumentParser(description=about.splitlines()[0])
-    words.add_argument("--program", type=Path, default=program.PROGRAM)
+    if with_program:
+        words.add_argument("--program", type=Path, default=program.PROGRAM)
     words.add_argument("--part", choices=parts, help="tries this alone")
     return words
 
 
-def try_parts(tool, parts, part, chosen, more=lambda: ()):
+def judge(tool, counts, judges, whole=True):
+    """Tells the complaints of each, none of which is asked where the tool lacks something: the status."""
+    if lacks(tool, counts, whole):
+        return 1
+    return end(tool, counts, [complaint for complaints in judges for complaint in complaints], whole)
+
+
+def try_parts(tool, parts, part, given, more=lambda: ()):
     """Tries the part that is asked for, or all, each of which is how many it tries and what gives its complaints; and what is more: the status."""
     names = [part] if part else list(parts)
-    counts = {name: parts[name][0] for name in names}
-    if lacks(tool, counts, not part):
-        return 1
-    return end(tool, counts, [*(complaint for name in names for complaint in parts[name][1](chosen)), *more()], not part)
+    judges = [*(parts[name][1] for name in names), lambda _: more()]
+    return judge(tool, {name: parts[name][0] for name in names}, (complaints(given) for complaints in judges), not part)
