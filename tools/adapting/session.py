@@ -236,13 +236,13 @@ class Session:
             self.wire.tell("terminated", {})
             self.wire.tell("exited", {"exitCode": 0})
 
-    def go_to(self, count, reason="step"):
+    def go_to(self, count):
         """Goes to where so many steps were taken, unless it stands at the end already."""
         if count == self.count and not self.film.has(count + 1):
             self.end()
             return
         self.count = count
-        self.stopped(Stop(reason))
+        self.stopped(Stop("step"))
 
     def draw(self):
         """Makes the picture of the page anew, if it is another than the one that is shown."""

@@ -45,9 +45,9 @@ def listed(words, stream, chosen):
     return Printed(sides, text[place:])
 
 
-def summed(stream, chosen=program.PROGRAM):
+def summed(stream):
     """What a stream prints, by the digests that the program lists: no file is made."""
-    return listed(["--list", "--sums"], stream, chosen)
+    return listed(["--list", "--sums"], stream, program.PROGRAM)
 
 
 def with_file(folder, side):

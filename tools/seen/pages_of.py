@@ -55,17 +55,17 @@ def page_of(name):
     return pdf.Page(width, [data[start:start + stride] for start in range(0, stride * height, stride)], RESOLUTIONS[width, height])
 
 
-def count_sides(stream, chosen=program.PROGRAM):
+def count_sides(stream):
     """How many sides come out, copies too."""
-    return len(NUMBER_OF_SHEET.findall(asked(["print", "--list", "-"], stream, chosen, None)))
+    return len(NUMBER_OF_SHEET.findall(asked(["print", "--list", "-"], stream, program.PROGRAM, None)))
 
 
-def without_copies(printed, stream, chosen=program.PROGRAM):
+def without_copies(printed, stream):
     """The P4 files of a stream that was printed, of each sheet those of its first copy. The trace is asked only where a sheet is as the one before."""
     numbered = zip(NUMBER_OF_SHEET.findall(printed.listing), printed.names, strict=True)
     sheets = {int(number): [name for _, name in some] for number, some in itertools.groupby(numbered, lambda each: each[0])}
     if any(are_equal(sheets[number], sheets[number - 1]) for number in sheets if number > 1):
-        firsts = set(first_copies(stream, chosen))
+        firsts = set(first_copies(stream))
         sheets = {number: some for number, some in sheets.items() if number in firsts}
     return [name for some in sheets.values() for name in some]
 
@@ -74,8 +74,8 @@ def are_equal(some, others):
     return len(some) == len(others) and all(one.read_bytes() == other.read_bytes() for one, other in zip(some, others))
 
 
-def first_copies(stream, chosen):
+def first_copies(stream):
     """The number of the first copy of each sheet that goes out, as the trace tells them."""
-    for line in traced.Texts(stream, chosen, runs=True):
+    for line in traced.Texts(stream, runs=True):
         if (copies := DELIVERED.search(line)) is not None:
             yield int(SHEETS.search(line)[1]) - int(copies[1]) + 1

@@ -47,7 +47,6 @@ def word(field):
 
 
 PLAIN = "        self.set_plain_fields()\n"
-PAGE = "        self.set_page_fields()\n"
 OVERLAID = "    state.set_call_fields()\n    state.default_margins()\n"
 LEFT = "    engine.level = level\n    state.end_raster()\n    state.restore(kept)\n"
 CALLED = "        state.end_raster()\n        yield from run_macro(engine, body)\n        state.end_raster()\n        state.restore(kept)\n"
