@@ -33,66 +33,17 @@ TEXTS = [
     ("brk 41", b"A"),
 ]
 
-# texts, and the number and the line of their refusal
+# the number of a refusal, its line, and the texts that are refused so
 REFUSED = [
-    ("foo", 401, 1),
-    ("uel ", 401, 1),
-    ("uel\r\n", 401, 1),
-    ("Uel", 401, 1),
-    (" uel", 401, 1),
-    ("uel\n\n;\nfoo\nuel", 401, 4),
-    ("esc ", 401, 1),
-    ("esc /", 401, 1),
-    ("esc \x7f", 401, 1),
-    ("esc EE", 401, 1),
-    ("esc \u00e9", 401, 1),
-    ("par ", 401, 1),
-    ("par *", 401, 1),
-    ("par *p", 401, 1),
-    ("par 0p1X", 401, 1),
-    ("par *p1x", 401, 1),
-    ("par *p1_", 401, 1),
-    ("par *p1 X", 401, 1),
-    ("par %-12345X", 401, 1),
-    ("par *b0W ", 401, 1),
-    ("par *b1W 0G", 401, 1),
-    ("par *b1W  02", 401, 1),
-    ("par *b1W 02 ", 401, 1),
-    ("par *p1.2.3X", 402, 1),
-    ("par *px1X", 402, 1),
-    ("par *p1\u00e9X", 402, 1),
-    ("par *p" + "1" * 33 + "X", 402, 1),
-    ("par *p1.2.3X 0", 402, 1),
-    ("par *p1.2.3X 0G", 401, 1),
-    ("par *b2W 02", 403, 1),
-    ("par *b2W 020", 403, 1),
-    ("par *b2W", 403, 1),
-    ("par *b1W 0202", 403, 1),
-    ("par *p1X 02", 403, 1),
-    ("uel\npar *b-1W 02", 403, 2),
-    ("ctl 1B", 401, 1),
-    ("ctl 20", 401, 1),
-    ("ctl 0", 401, 1),
-    ("ctl 00C", 401, 1),
-    ("ctl 0G", 401, 1),
-    ("txt 1F", 401, 1),
-    ("txt 4", 401, 1),
-    ("for 4", 401, 1),
-    ("brk ", 401, 1),
-    ("brk 4G", 401, 1),
-    ("brk 414", 403, 1),
-    ("pjl ", 401, 1),
-    ("pjl 4G", 401, 1),
-    ("pjl 40504A4C0", 403, 1),
-    ("pjl 40504A4C", 403, 1),
-    ("pjl 0C", 403, 1),
-    ("pjl 40504A4C0A0A", 403, 1),
-    ("pjl 40504A4C0A40504A4C0A", 403, 1),
-    ("par *\x7f1X", 402, 1),
-    (" ; no remark", 401, 1),
-    ("Ctl 0C", 401, 1),
-    ("par *p1\x5f", 401, 1),
-    ("foo\npar *p1.2.3X", 401, 1),
+    (401, 1, ["foo", "uel ", "uel\r\n", "Uel", " uel", "esc ", "esc /", "esc \x7f", "esc EE", "esc \u00e9", "par ", "par *", "par *p", "par 0p1X",
+              "par *p1x", "par *p1_", "par *p1 X", "par %-12345X", "par *b0W ", "par *b1W 0G", "par *b1W  02", "par *b1W 02 ", "par *p1.2.3X 0G",
+              "ctl 1B", "ctl 20", "ctl 0", "ctl 00C", "ctl 0G", "txt 1F", "txt 4", "for 4", "brk ", "brk 4G", "pjl ", "pjl 4G", " ; no remark",
+              "Ctl 0C", "par *p1\x5f", "foo\npar *p1.2.3X"]),
+    (401, 4, ["uel\n\n;\nfoo\nuel"]),
+    (402, 1, ["par *p1.2.3X", "par *px1X", "par *p1\u00e9X", "par *p" + "1" * 33 + "X", "par *p1.2.3X 0", "par *\x7f1X"]),
+    (403, 1, ["par *b2W 02", "par *b2W 020", "par *b2W", "par *b1W 0202", "par *p1X 02", "brk 414", "pjl 40504A4C0", "pjl 40504A4C", "pjl 0C",
+              "pjl 40504A4C0A0A", "pjl 40504A4C0A40504A4C0A"]),
+    (403, 2, ["uel\npar *b-1W 02"]),
 ]
 
 # streams, their text, and the bytes that it assembles to, whose text is the same
@@ -231,7 +182,7 @@ THERE_AND_BACK = [stream.replace(b"^", b"\x1b").replace(b"~", b"\x0c") for strea
 ]]
 
 ROWS = [("asm - /dev/stdout", 0, assembled, text.encode()) for text, assembled in TEXTS]
-ROWS += [("asm - none/b", 1, f"fault {fault} line {line}\n", text.encode()) for text, fault, line in REFUSED]
+ROWS += [("asm - none/b", 1, f"fault {fault} line {line}\n", text.encode()) for fault, line, texts in REFUSED for text in texts]
 ROWS += [("disasm -", 0, text, stream) for stream, text, _ in STREAMS]
 ROWS += [("asm - /dev/stdout", 0, assembled, text.encode()) for _, text, assembled in STREAMS]
 ROWS += [("disasm -", 0, text, assembled) for _, text, assembled in STREAMS]

@@ -1,5 +1,6 @@
 """Jobs of tickets: each refusal of a ticket and of images, and jobs byte for byte."""
 
+import itertools
 import json
 
 from asked.files import TICKET, blank, named
@@ -143,15 +144,8 @@ FIRST = [
     (nested(127), "fault 601"),
     (ticket(Version="2", Amount='2,"amount":1'), "fault 602 key amount"),
     (ticket(Version="", Amount="no"), "fault 601"),
-    (ticket(Version="null", Type="null"), "fault 602 key Version"),
-    (ticket(Type="null", JobID="null"), "fault 602 key Type"),
-    (ticket(JobID="null", NPage="null"), "fault 602 key JobID"),
-    (ticket(NPage="null", Amount="null"), "fault 602 key NPage"),
-    (ticket(Amount="null", RunList="null"), "fault 602 key Amount"),
-    (ticket(RunList="null", Media="null"), "fault 602 key RunList"),
-    (ticket(Media="null", Sides="null"), "fault 602 key Media"),
-    (ticket(Sides="null", Collate="null"), "fault 602 key Sides"),
-    (ticket(Collate="null", Resolution="null"), "fault 602 key Collate"),
+    # of two members that are none the first is told
+    *((ticket(**{one: "null", other: "null"}), f"fault 602 key {one}") for one, other in itertools.pairwise(MEMBERS)),
     (ticket(Type='"Folding"', Collate="0"), "fault 602 key Collate"),
     (ticket(Type='"Folding"', Resolution="0"), "fault 602 key Resolution"),
     (ticket(Type='"Folding"', NPage="0"), "fault 603"),
