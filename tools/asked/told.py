@@ -1,6 +1,7 @@
 """What the program says of words that ask for help, or that it refuses, byte for byte: told.txt, each text behind a line `$ press WORDS` for all that have it.
 
-`tools/answers --write-told` makes it anew; who does so reads what has changed.
+Each of these words is a row of `words`, or of `sizes`. Who adds some puts that line there, with none behind it; `tools/answers --write-told` makes the texts
+anew, and who does so reads what has changed.
 """
 
 import re

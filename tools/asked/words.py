@@ -2,6 +2,8 @@
 
 from pathlib import Path
 
+from asked import told
+
 PAGE = "sheet 1 front 2550x3300 black 0\n"
 FEED = b"\x0c"
 # The digests are those of sha256sum, of the files that `print` makes.
@@ -20,8 +22,8 @@ UNEXPECTED = "error: unexpected argument '{}' found\n\nUsage: press print [OPTIO
 TABLES = (Path(__file__).resolve().parent / "tables.json").read_text(encoding="ascii")
 LONG = "x" * 63  # with one character more the longest that is told
 
-# Words, status, what is printed on standard output and then on standard error (bytes: on standard output alone; None: something,
-# without an end to compare), and standard input.
+# Words, status, what is printed on standard output and then on standard error (bytes: on standard output alone; None: the text of told.txt), and
+# standard input.
 ROWS = [
     ("", 0, PAGE, FEED),
     ("print --list -", 0, PAGE, FEED),
@@ -52,12 +54,6 @@ ROWS = [
     ("print --list --default COPIES=2 --default COPIES=1 -", 0, PAGE, FEED),
     ("print --list --default COPIES=3 -", 0, b"@PJL DINQUIRE COPIES\r\n3\r\n\x0c", b"@PJL DINQUIRE COPIES\n"),
     ("print --list --default COPIES=3 -", 0, b"@PJL INQUIRE COPIES\r\n3\r\n\x0c", b"\x1b%-12345X@PJL INQUIRE COPIES\n"),
-    ("print --list --default COPIES=1000 -", 2, None, FEED),
-    ("print --list --default SIZE=A4 -", 2, None, FEED),
-    ("print --list --default COPIES -", 2, None, FEED),
-    ("print --list --default COPIES= 2 -", 2, None, FEED),
-    ("print --list - --default", 2, None, FEED),
-    ("disasm --default COPIES=1 -", 2, None, FEED),
     ("disasm -", 0, "ctl 0C\n", FEED),
     ("disasm -", 0, "par *p10X\npar *p20Y\n", b"\x1b*p10x20Y"),
     ("disasm no/such", 1, "fault 304\n", FEED),
@@ -70,7 +66,6 @@ ROWS = [
     ("page - 1 no/such/b", 1, "fault 115\n", FEED),
     ("page - 1 -", 2, USAGE, FEED),
     ("page - one b", 2, USAGE, FEED),
-    ("page - 1", 2, None, FEED),
     ("asm - b", 0, "", b"esc E\nctl 0C"),
     ("asm - b", 0, "", b""),
     ("asm - b", 0, "", b"; \xc3\xa9\nuel\n"),
@@ -116,45 +111,12 @@ ROWS = [
     ("press --keep-going --engines 0", 1, "fault 701\n", b"pause\n"),
     ("tables", 0, TABLES, FEED),
     ("tables", 0, TABLES, b""),
-    ("--help", 0, None, FEED),
-    ("help", 0, None, FEED),
-    ("help tables", 0, None, FEED),
     ("--version", 0, "press 1.0.0 (proved by rattle-kit-13f)\n", FEED),
     ("-V", 0, "press 1.0.0 (proved by rattle-kit-13f)\n", FEED),
-    ("print --version", 2, None, FEED),
-    ("print", 2, None, FEED),
-    ("print -", 2, None, FEED),
-    ("print --all -", 2, None, FEED),
-    ("print a b c", 2, None, FEED),
-    ("asm a", 2, None, FEED),
-    ("asm a b c", 2, None, FEED),
-    ("disasm", 2, None, FEED),
-    ("disasm a b", 2, None, FEED),
-    ("write", 2, None, FEED),
-    ("write a", 2, None, FEED),
-    ("tables extra", 2, None, FEED),
-    ("tables -", 2, None, FEED),
-    ("tables --list", 2, None, FEED),
-    ("press -", 2, None, FEED),
-    ("press --engines", 2, None, FEED),
-    ("press --engines two", 2, None, FEED),
-    ("press --engines +2", 2, None, FEED),
-    ("press --engines -1", 2, None, FEED),
-    ("press --engines 18446744073709551616", 2, None, FEED),
-    ("press --engines 2 2", 2, None, FEED),
-    ("press --engines 2 --engines 2", 2, None, FEED),
-    ("press --out", 2, None, FEED),
-    ("press --out a%q%d --out b%q%d", 2, None, FEED),
-    ("press --sums --sums", 2, None, FEED),
-    ("press --keep-going=yes", 2, None, FEED),
-    ("press --list", 2, None, FEED),
     ("debug -", 2, USAGE, FEED),
     ("asm - -", 2, USAGE, FEED),
     ("asm b -", 2, USAGE, FEED),
     ("write ticket - dot", 2, USAGE, FEED),
-    ("debug", 2, None, FEED),
-    ("debug a b", 2, None, FEED),
-    ("debug --list a", 2, None, FEED),
     # words with control characters
     ("\x1b[2J", 2, UNKNOWN.format("\\u001b[2J"), FEED),
     ("print - a%d \x1b[31mred", 2, UNEXPECTED.format("\\u001b[31mred"), FEED),
@@ -170,5 +132,7 @@ ROWS = [
     ("trace --default \x7f\x9f{lf} -", 2, NO_DEFAULT.format("\\u007f\\u009f\\n"), FEED),
     ("page - \x1b out", 2, USAGE, FEED),
     ("press --engines \x1b", 2, USAGE, FEED),
-    ("step a", 2, None, FEED),
 ]
+# What is asked for help, and is no fault; other words of told.txt are refused. Ten words are a row of `sizes`.
+HELP, TEN = ("--help", "help", "help tables"), "print a b c d e f g h i j"
+ROWS += [(words, 0 if words in HELP else 2, None, FEED) for words in told.texts() if words != TEN]
