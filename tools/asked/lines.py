@@ -4,50 +4,20 @@
 SUBMITTED = '{"QueueEntryID":"Q1","ReturnCode":0,"Type":"SubmitQueueEntry","refID":"a"}\n'
 IDLE = '{"Device":{"QueueEntryID":"","Sheets":0,"Status":"Idle"},"ReturnCode":0,"Type":"Status","refID":"s"}\n'
 
-# The lines of a session, with a press that has no entries, and their answers.
+# What a press that has no entries answers, and the lines of sessions that it answers so.
 LINES = [
-    (b"message status", IDLE),
-    (b"message status\n", IDLE),
-    (b"message submit dot", SUBMITTED),
-    (b"message submit d\xc3\xb6t", SUBMITTED),
-    (b"message submit", '{"Fault":611,"ReturnCode":6,"Type":"SubmitQueueEntry","refID":"a"}\n'),
-    (b"message empty", '{"ReturnCode":6,"Type":"","refID":""}\n'),
-    (b"turn 0", "turn - 0\n"),
-    (b"turn 1", "turn - 0\n"),
-    (b"turn 01", "turn - 0\n"),
-    (b"turn 18446744073709551615", "turn - 0\n"),
-    (b"turn 00000000000000000000018446744073709551615", "turn - 0\n"),
-    (b"turn 18446744073709551616", "what?\n"),
-    (b"turn 99999999999999999999", "what?\n"),
-    (b"turn", "what?\n"),
-    (b"turn ", "what?\n"),
-    (b"turn +1", "what?\n"),
-    (b"turn -1", "what?\n"),
-    (b"turn 1 0", "turn - 0\n"),
-    (b"turn 01 00", "turn - 0\n"),
-    (b"turn 1 0 0", "what?\n"),
-    (b"turn 1 x", "what?\n"),
-    (b"turn x 0", "what?\n"),
-    (b"turn 1 +0", "what?\n"),
-    (b"turn 1 ", "what?\n"),
-    (b"turn 1  0", "what?\n"),
-    (b"turn 1 18446744073709551616", "what?\n"),
-    (b"turn 18446744073709551616 7", "what?\n"),
-    (b"turn  1", "what?\n"),
-    (b"turn\t1", "what?\n"),
-    (b"Turn 1", "what?\n"),
-    (b"pause\ncontinue\nabort", "ok\nok\nok\n"),
-    (b"pause\r\n", "what?\n"),
-    (b"pause ", "what?\n"),
-    (b" pause", "what?\n"),
-    (b"abort Q1", "what?\n"),
-    (b"message", "what?\n"),
-    (b"message ", "what?\n"),
-    (b"message status ", "what?\n"),
-    (b"message  status", "what?\n"),
-    (b"message submit  dot", "what?\n"),
-    (b"\n", "what?\n"),
-    (b"\xff\nwhat?", "what?\nwhat?\n"),
+    (IDLE, [b"message status", b"message status\n"]),
+    (SUBMITTED, [b"message submit dot", b"message submit d\xc3\xb6t"]),
+    ('{"Fault":611,"ReturnCode":6,"Type":"SubmitQueueEntry","refID":"a"}\n', [b"message submit"]),
+    ('{"ReturnCode":6,"Type":"","refID":""}\n', [b"message empty"]),
+    ("turn - 0\n", [b"turn 0", b"turn 1", b"turn 01", b"turn 18446744073709551615", b"turn 00000000000000000000018446744073709551615", b"turn 1 0",
+                    b"turn 01 00"]),
+    ("what?\n", [b"turn 18446744073709551616", b"turn 99999999999999999999", b"turn", b"turn ", b"turn +1", b"turn -1", b"turn 1 0 0", b"turn 1 x",
+                 b"turn x 0", b"turn 1 +0", b"turn 1 ", b"turn 1  0", b"turn 1 18446744073709551616", b"turn 18446744073709551616 7", b"turn  1",
+                 b"turn\t1", b"Turn 1", b"pause\r\n", b"pause ", b" pause", b"abort Q1", b"message", b"message ", b"message status ",
+                 b"message  status", b"message submit  dot", b"\n"]),
+    ("ok\nok\nok\n", [b"pause\ncontinue\nabort"]),
+    ("what?\nwhat?\n", [b"\xff\nwhat?"]),
 ]
 
 # A line with a fault of a file, and the fault. What it names behind that is not opened, and what stands behind it not carried out.
@@ -68,6 +38,6 @@ BROKEN_LINES = [
     (b"message \xff none", "fault 304\n"),
 ]
 
-ROWS = [("press", 0, answer, lines) for lines, answer in LINES]
+ROWS = [("press", 0, answer, lines) for answer, some in LINES for lines in some]
 ROWS += [("press", 1, f"{SUBMITTED}turn Q1 15\n{fault}", b"message submit dot\nturn 15\n" + line + b"\npause\n")
          for line, fault in BROKEN_LINES]

@@ -52,47 +52,24 @@ MADE = [
     ("press", "made1-Q1", SUBMITTED + b"turn 19\n", OLDER),
 ]
 
-# Words that are refused, the file that they would make, and standard input.
+# The status, the file that would be made, standard input, and words that are refused so.
 REFUSED = [
-    ("asm no/such made", "made", b""),
-    ("asm / made", "made", b""),
-    ("asm - made", "made", b"uel\nfoo\n"),
-    ("asm - made", "made", b"uel\n; \xff\n"),
-    ("asm - made", "made", b"uel\npar *p1.2.3X\n"),
-    ("asm - made", "made", b"uel\npar *b2W 02\n"),
-    ("page no/such 1 made", "made", b""),
-    ("page / 1 made", "made", b""),
-    ("write no/such made dot", "made", b""),
-    ("write / made dot", "made", b""),
-    (f"write {named(b'{5}')} made dot", "made", b""),
-    (f"write {named(TICKET[:-1] + b',')} made dot", "made", b""),
-    (f"write {named(asking(1.5))} made dot", "made", b""),
-    (f"write {named(asking(1, kind=''))} made dot", "made", b""),
-    (f"write {named(asking(1, pages=0))} made dot", "made", b""),
-    (f"write {named(asking(0))} made dot", "made", b""),
-    ("write ticket made", "made", b""),
-    ("write ticket made no/such", "made", b""),
-    ("write ticket made /", "made", b""),
-    ("write ticket made no-image", "made", b""),
-    ("write ticket made no-size", "made", b""),
-    ("write ticket made cut", "made", b""),
-    ("write ticket made wide", "made", b""),
-    ("write ticket made tall", "made", b""),
-    ("print no/such made%d", "made1", b""),
-    ("print / made%d", "made1", b""),
-    ("print - made1", "made1", b"\x0c"),
-    ("print - made1%d%d", "made1", b"\x0c"),
-    ("print -", "made1", b"\x0c"),
-    ("asm -", "made", b"uel"),
-    ("page - made", "made", b"uel"),
-    ("page - x made", "made", b"uel"),
-    ("page - -1 made", "made", b"uel"),
-    ("page - 18446744073709551616 made", "made", b"uel"),
-    ("page --default COPIES - 1 made", "made", b"uel"),
+    (1, "made", b"", ["asm no/such made", "asm / made", "page no/such 1 made", "page / 1 made", "write no/such made dot", "write / made dot",
+                      f"write {named(b'{5}')} made dot", f"write {named(TICKET[:-1] + b',')} made dot", f"write {named(asking(1.5))} made dot",
+                      f"write {named(asking(1, kind=''))} made dot", f"write {named(asking(1, pages=0))} made dot",
+                      f"write {named(asking(0))} made dot", "write ticket made", "write ticket made no/such", "write ticket made /",
+                      "write ticket made no-image", "write ticket made no-size", "write ticket made cut", "write ticket made wide",
+                      "write ticket made tall"]),
+    (1, "made", b"uel\nfoo\n", ["asm - made"]),
+    (1, "made", b"uel\n; \xff\n", ["asm - made"]),
+    (1, "made", b"uel\npar *p1.2.3X\n", ["asm - made"]),
+    (1, "made", b"uel\npar *b2W 02\n", ["asm - made"]),
+    (1, "made1", b"", ["print no/such made%d", "print / made%d"]),
+    (1, "made1", b"\x0c", ["print - made1", "print - made1%d%d"]),
+    (2, "made1", b"\x0c", ["print -"]),
+    (2, "made", b"uel", ["asm -", "page - made", "page - x made", "page - -1 made", "page - 18446744073709551616 made",
+                         "page --default COPIES - 1 made"]),
 ]
 
-WORDS_REFUSED = ("print -", "asm -", "page - made", "page - x made", "page - -1 made", "page - 18446744073709551616 made",
-                 "page --default COPIES - 1 made")
-
 ROWS = [(words, name, given, 0, wanted) for words, name, given, wanted in MADE]
-ROWS += [(words, name, given, 2 if words in WORDS_REFUSED else 1, OLDER) for words, name, given in REFUSED]
+ROWS += [(words, name, given, status, OLDER) for status, name, given, some in REFUSED for words in some]
