@@ -60,25 +60,11 @@ DEFAULTS = [
     *both(b"DUPLEX", b"OFF", b"OFF"),
 ]
 
-OTHERS = [
-    (b"@PJL COMMENT SET COPIES=9\n", b""),
-    (b"@PJL\n", b""),
-    (b"@PJL\r\n", b""),
-    (b"@PJL \t\n", b""),
-    (b"@PJL ENTER LANGUAGE=PCL\n", b""),
-    (b"@PJL DISPLAY \"x\"\n", b""),
-    (b"@PJLSET COPIES=9\n", b""),
-    (b"@PJL JOB=\"x\"\n", b""),
-    (b"@pjl SET COPIES=9\n", b""),
-    (b"PJL SET COPIES=9\n", b""),
-    (b"\n", b""),
-    (b"", b""),
-    (b"@PJL RESETS\n", b""),
-    (b"@PJL LSET COPIES=9\n", b""),
-    (b"@PJL USTATUS PAGE\n", b""),
-    (b"@PJL USTATUS JOB=ON\n", b""),
-    *both(b"COPIES", b"1", b"1"),
-]
+# what changes nothing
+OTHERS = [b"@PJL COMMENT SET COPIES=9\n", b"@PJL\n", b"@PJL\r\n", b"@PJL \t\n", b"@PJL ENTER LANGUAGE=PCL\n", b"@PJL DISPLAY \"x\"\n",
+          b"@PJLSET COPIES=9\n", b"@PJL JOB=\"x\"\n", b"@pjl SET COPIES=9\n", b"PJL SET COPIES=9\n", b"\n", b"", b"@PJL RESETS\n",
+          b"@PJL LSET COPIES=9\n", b"@PJL USTATUS PAGE\n", b"@PJL USTATUS JOB=ON\n"]
+OTHERS = [*((line, b"") for line in OTHERS), *both(b"COPIES", b"1", b"1")]
 
 QUERIES = [
     (b"@PJL ECHO Hello  World\r\n", b"@PJL ECHO Hello  World\r\n\x0c"),
