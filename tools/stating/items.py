@@ -9,6 +9,7 @@ from typing import NamedTuple
 from asked import told as texts
 
 SHOWN = 100      # characters of a clause that are told
+BEHIND = re.compile(r"\n\n(?!\s*(?://(?!/)|requires\b|ensures\b))|\Z")   # a blank line that is no part of a contract
 CLAUSE = re.compile(r"\b(requires|ensures)\b( \w+)?\s*\{")
 FUNCTION = re.compile(r"^( *)(pub )?(?:const )?(?:unsafe )?fn (\w+)", re.MULTILINE)
 HEAD = re.compile(r"^(?:unsafe )?(?:pub )?(?:impl|trait)\b.*", re.MULTILINE)
@@ -61,7 +62,7 @@ def placed_clauses_of(text):
         where = name_of_head(head)
         place = found.end()
         end = text.find(f"\n{found[1]}{{\n", place)
-        stop = min(each for each in (end, text.find("\n\n", place), len(text)) if each >= 0)
+        stop = min(end if end >= 0 else len(text), BEHIND.search(text, place).start())
         while (clause := CLAUSE.search(text, place, stop)) is not None:
             place = balanced(text, clause.end() - 1)
             yield f"{where}::{found[3]}" if where else found[3], " ".join(text[clause.start():place].split()), found.start()
