@@ -101,7 +101,12 @@ class Seed:
         return not self.reach and not self.replaced
 
     def count_black(self):
-        return int.from_bytes(self.decoded(), "big").bit_count()
+        return int.from_bytes(self.sent(), "big").bit_count()
+
+    def sent(self):
+        """The seed row as far as it may have a dot."""
+        row = self.decoded()
+        return row[:max(self.reach, self.replaced)]
 
     def decoded(self):
         for method, data in self.waiting:
@@ -241,7 +246,7 @@ class Watcher:
         if seed.is_white() or marks and y < strip.end and seed.fits(room):
             sent = WHOLE_ROW
         else:
-            sent = strip.sent(y, seed.decoded())
+            sent = strip.sent(y, seed.sent())
         return sent._replace(again=again) if again else sent
 
     def whole_rows(self, now, lowest, last, some, counts_repeats):
