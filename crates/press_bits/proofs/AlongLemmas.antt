@@ -35,33 +35,6 @@ within_test from to p reached before = grind (arith, nat_tests)
 pub in_run_test : (a b p : ℕ) → (nat_le a p && nat_lt p b) ≡ true → (a ≤ p) × (p < b)
 in_run_test a b p test = grind (arith, nat_tests)
 
-pub painted_none : (old : List ℕ) (mode : Mode) (source tile : ℕ → Bool) (from to : ℕ) → to ≤ from → IsPaintedBetween old old mode source tile from to
-painted_none old mode source tile from to none p = sym (not_mixed _ mode (source p) (tile p) (row_dot old p) (no_dot from to p none))
-  where
-    no_dot : (from to p : ℕ) → to ≤ from → (nat_le from p && nat_lt p to) ≡ false
-    no_dot from to p none = grind (arith, nat_tests)
-
--- dots that are painted right of those that are painted
-pub painted_then : (old rows new : List ℕ) (mode : Mode) (source tile : ℕ → Bool) (from at to : ℕ) → from ≤ at → at ≤ to →
-    IsPaintedBetween old rows mode source tile from at → IsPaintedBetween rows new mode source tile at to → IsPaintedBetween old new mode source tile from to
-painted_then old rows new mode source tile from at to begun left first second p =
-    elim (cases_lt p at) [
-      | inl before ↦
-          second p
-          ∙ not_mixed _ mode (source p) (tile p) (row_dot rows p) (before_test at to p before)
-          ∙ first p
-          ∙ ap (λ t. mixed_dot t mode (source p) (tile p) (row_dot old p)) (same_prefix from at to p before left)
-      | inr behind ↦
-          second p
-          ∙ (λ i. mixed_dot (same_back from at to p behind begun i) mode (source p) (tile p) ((first p ∙ not_mixed _ mode (source p) (tile p) (row_dot old p) (past_test from at p behind)) i))
-    ]
-  where
-    same_prefix : (from at to p : ℕ) → p < at → at ≤ to → (nat_le from p && nat_lt p at) ≡ (nat_le from p && nat_lt p to)
-    same_prefix from at to p before left = grind (arith, nat_tests)
-
-    same_back : (from at to p : ℕ) → at ≤ p → from ≤ at → (nat_le at p && nat_lt p to) ≡ (nat_le from p && nat_lt p to)
-    same_back from at to p behind begun = grind (arith, nat_tests)
-
 -- the dots of a word are painted into eight bytes
 pub painted_word : (old new : List ℕ) (mode : Mode) (source tile : ℕ → Bool) (index from to dots through mask before after : ℕ) →
     8 * index ≤ from → to ≤ 8 * index + 64 →

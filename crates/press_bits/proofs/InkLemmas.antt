@@ -1,5 +1,5 @@
 -- The part of a stroke that has ink.
-use Rattle.std.proofs.Common.{◌≡◌, ℕ, ◌+◌, ◌-◌, ◌*◌, ◌<◌, ◌≤◌, ◌⊎◌, min, max, Bool, true, false, ◌&&◌, List, sym, ap, ◌∙◌, inl, inr, arith}
+use Rattle.std.proofs.Common.{◌≡◌, ℕ, ◌+◌, ◌-◌, ◌*◌, ◌<◌, ◌≤◌, ◌⊎◌, Bool, true, false, ◌&&◌, List, sym, ap, ◌∙◌, inl, inr, arith}
 use Rattle.std.specs.Prelude.{nat_le, nat_lt}
 use Rattle.std.proofs.lemmas.Bool.{cases_lt}
 use Rattle.std.proofs.lemmas.Bool.Decides.{nat_tests}
@@ -39,50 +39,6 @@ white_before bits last end word white some dots none p reached before =
       | inl early ↦ white_word bits word (8 * (last - 8)) p dots none reached (omega (arith, early, some))
       | inr here ↦ white p here before
     ]
-
--- a part whose first dot is that of a run, or a later one of it
-begun_in : (a b c s : ℕ) → a ≤ c → s ≡ min (max a b) c → (a ≤ s) × (s ≤ c)
-begun_in a b c s order is = grind arith
-
-before_part : (a b c s p : ℕ) → s ≡ min (max a b) c → a ≤ p → p < s → p < b
-before_part a b c s p is reached before = grind arith
-
--- a part that ends in a run
-ended_in : (c e s l : ℕ) → s ≤ c → l ≡ max (min c e) s → (s ≤ l) × (l ≤ c)
-ended_in c e s l order is = grind arith
-
-behind_part : (c e s l p : ℕ) → l ≡ max (min c e) s → l ≤ p → p < c → e ≤ p
-behind_part c e s l p is behind before = grind arith
-
--- a part of a run, before which and behind which all dots of the source are white
-pub ink_between : (stroke : Stroke) (front rear begin end skip last : ℕ) → stroke.mode.source_opaque ≡ false
-    → 8 * front ≤ stroke.run.skip → stroke.run.skip + stroke.run.count ≤ 8 * rear
-    → ((p : ℕ) → 8 * front ≤ p → p < 8 * begin → row_dot stroke.source.bits.now p ≡ false)
-    → ((p : ℕ) → 8 * end ≤ p → p < 8 * rear → row_dot stroke.source.bits.now p ≡ false)
-    → skip ≡ min (max stroke.run.skip (8 * begin)) (stroke.run.skip + stroke.run.count)
-    → last ≡ max (min (stroke.run.skip + stroke.run.count) (8 * end)) skip
-    → HasInkOf stroke (record { first = stroke.run.first + (skip - stroke.run.skip); skip = skip; count = last - skip })
-ink_between stroke front rear begin end skip last transparent before behind whites_before whites_behind skip_is last_is =
-    let begun = begun_in stroke.run.skip (8 * begin) (stroke.run.skip + stroke.run.count) skip (omega arith) skip_is in
-    let ended = ended_in (stroke.run.skip + stroke.run.count) (8 * end) skip last begun.1 last_is in
-    record {
-      begun = omega arith;
-      along = omega (arith, begun.0);
-      within = omega (arith, begun.0, ended.0, ended.1);
-      white = λ place reached left out.
-          let p : ℕ = stroke.run.skip + (place - stroke.run.first) in (
-            transparent,
-            elim out [
-              | inl early ↦
-                  whites_before p (omega (arith, before))
-                  (before_part stroke.run.skip (8 * begin) (stroke.run.skip + stroke.run.count) skip p skip_is (omega arith) (omega (arith, early, reached, begun.0)))
-              | inr late ↦
-                  whites_behind p
-                  (behind_part (stroke.run.skip + stroke.run.count) (8 * end) skip last p last_is (omega (arith, late, reached, begun.0, ended.0)) (omega (arith, left, reached)))
-                  (omega (arith, left, reached, behind))
-            ],
-          );
-    }
 
 white_stays : (mode : Mode) (tile before : Bool) → mode.source_opaque ≡ false → mixed_dot true mode false tile before ≡ before
 white_stays mode tile before transparent = ap (λ so. mixed_dot true (record mode { source_opaque = so }) false tile before) transparent

@@ -20,9 +20,6 @@ pub IsPeriod-dots : (pattern : Row) → IsPeriod pattern pattern.dots
 unfolding repeated
 IsPeriod-dots pattern n = ap (row_dot pattern.bits) (add-mod_left pattern.dots n)
 
-pub IsPeriod-twice : (pattern : Row) (m : ℕ) → IsPeriod pattern m → IsPeriod pattern (m * 2)
-IsPeriod-twice pattern m once n = ap (repeated pattern) (omega arith) ∙ once (m + n) ∙ once n
-
 pub IsPeriod-64 : (pattern : Row) → 64 % pattern.dots ≡ 0 → IsPeriod pattern 64
 unfolding repeated
 IsPeriod-64 pattern divides n =

@@ -1,21 +1,7 @@
-use Rattle.std.proofs.Common.{◌≡◌, ◌/◌, inl, inr, w64, get_or, refl, ap, ◌∙◌, arith}
+use Rattle.std.proofs.Common.{◌≡◌, ◌/◌, inl, inr, w64, get_or, ap, ◌∙◌, arith}
 use Rattle.std.specs.Int.{to_le_bytes, to_be_bytes}
-use Rattle.std.proofs.lemmas.List.{get_or-set_other}
-use Rattle.std.proofs.lemmas.Grind.{get_or-set_at}
 use Rattle.press_bits.proofs.WordLemmas.{to_le_bytes-swap_bytes, dot_stays, word_here}
 use Rattle.press_bits.proofs.word.put_word.Goals as goal
-
-pub loop-place-init : goal.loop-place-init
-loop-place-init c = record {
-  here = λ i below. absurd (omega arith);
-  elsewhere = λ i off. refl;
-}
-
-pub loop-place-preserved : goal.loop-place-preserved
-loop-place-preserved c = record {
-  here = λ i below. grind (arith, get_or-set_at, get_or-set_other, c.loop-place.invariant.here);
-  elsewhere = λ i off. grind (arith, get_or-set_other, c.loop-place.invariant.elsewhere);
-}
 
 pub returns-clause-here : goal.returns-clause-here
 returns-clause-here c = λ j within.

@@ -40,17 +40,6 @@ returns-then-not-has_band c =
     ∙ take-replicate (c.min-lines.result * c.line_bytes.result) 131072 0
     (omega (arith, mul-le-mul_right c.line_bytes.result most, c.line_bytes.ensures, c.self.invariant.most_width)))))
 
-pub prefix-requires-2 : goal.prefix-requires-2
-prefix-requires-2 c =
-    let some : is_there (band_at c.self.inside.bands.items c.args.index) ≡ true = sym c.has_band.ensures ∙ search rules in
-    let long : length c.bytes_of.result.now ≡ 64 * c.line_bytes.result =
-    ap length c.bytes_of.ensures
-    ∙ there_long c.self.inside.width c.self.inside.height c.self.inside.bands.items c.args.index c.self.invariant some
-    ∙ ap (λ n. 64 * n) (sym c.line_bytes.ensures) in
-    let most : c.min-lines.result ≤ 64 = omega (arith, c.min-lines.ensures) in
-    let within : c.min-lines.result * c.line_bytes.result ≤ length c.bytes_of.result.now = omega (arith, mul-le-mul_right c.line_bytes.result most, long) in
-    search (rules, within)
-
 pub returns : goal.returns
 returns c =
     let high : c.self.inside.height ≡ c.args.self.now.page.height = sym (height-page_of_bands _ _ _) ∙ ap (λ (s : BandedPage). s.page.height) c.self.view_is in

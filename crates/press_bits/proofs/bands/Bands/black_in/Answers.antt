@@ -14,8 +14,5 @@ returns-then-is_unmarked c =
     (subst (λ b. (p : ℕ) → 8 * (c.args.y % 64 * b) ≤ p → p < 8 * (c.args.y % 64 * b + b) → row_dot (band_at c.self.inside.bands.items (c.args.y / 64)) p ≡ false) c.line_bytes-count.ensures white)
     ∙ ap (λ (s : BandedPage). black_in_line s.page c.args.y) c.self.view_is
 
-pub count_black-requires : goal.count_black-requires
-count_black-requires c = omega (arith, c.line.ensures.long, c.requires.narrow)
-
 pub returns : goal.returns
 returns c = c.count_black.ensures.count ∙ count-line c.args.self.now.page c.args.y c.line.result.now c.line.ensures

@@ -20,21 +20,6 @@ returns-then-not-has_band c =
     ∙ ap (λ (s : BandedPage). black_in_line s.page y) c.self.view_is))
     ∙ omega arith
 
-pub overflow_mul-first : goal.overflow_mul-first
-overflow_mul-first c =
-    let high : c.self.inside.height ≡ c.args.self.now.page.height = sym (height-page_of_bands _ _ _) ∙ ap (λ (b : BandedPage). b.page.height) c.self.view_is in
-    record { fits = omega (arith, c.requires, high, c.self.invariant.most_height) }
-
-pub overflow_cast-first : goal.overflow_cast-first
-overflow_cast-first c =
-    let high : c.self.inside.height ≡ c.args.self.now.page.height = sym (height-page_of_bands _ _ _) ∙ ap (λ (b : BandedPage). b.page.height) c.self.view_is in
-    record { fits = omega (arith, c.requires, high, c.self.invariant.most_height) }
-
-pub overflow_add-first : goal.overflow_add-first
-overflow_add-first c =
-    let high : c.self.inside.height ≡ c.args.self.now.page.height = sym (height-page_of_bands _ _ _) ∙ ap (λ (b : BandedPage). b.page.height) c.self.view_is in
-    record { fits = omega (arith, c.requires, high, c.self.invariant.most_height) }
-
 pub black_in-black-requires-clause-inside : goal.black_in-black-requires-clause-inside
 black_in-black-requires-clause-inside c =
     let high : c.self.inside.height ≡ c.args.self.now.page.height = sym (height-page_of_bands _ _ _) ∙ ap (λ (b : BandedPage). b.page.height) c.self.view_is in

@@ -1,4 +1,4 @@
-use Rattle.std.proofs.Common.{◌≡◌, ℕ, ◌+◌, ◌-◌, ◌*◌, ◌/◌, ◌%◌, ◌<◌, ◌≤◌, ◌&&◌, List, [], true, inr, length, min, refl, sym, ap, ◌∙◌, subst, arith, pos, rules}
+use Rattle.std.proofs.Common.{◌≡◌, ℕ, ◌+◌, ◌-◌, ◌*◌, ◌/◌, ◌%◌, ◌<◌, ◌≤◌, ◌&&◌, List, [], true, inr, length, min, refl, sym, ap, ◌∙◌, subst, arith, pos}
 use Rattle.std.specs.Prelude.{nat_le, nat_lt, if◌then◌else◌}
 use Rattle.std.proofs.lemmas.List.{get_or_default}
 use Rattle.press_bits.specs.Mark.{painted, row_mark, row_dot, repeated}
@@ -10,18 +10,6 @@ use Rattle.press_bits.proofs.AlongLemmas.{in_run_test}
 use Rattle.press_bits.proofs.BandLemmas.{width-page_of_bands, height-page_of_bands, painted_band, painted_has, put_flags, band_ready, at_line, there_long, there_within, in_bytes}
 use Rattle.press_bits.proofs.MixLemmas.{mixed_when}
 use Rattle.press_bits.proofs.bands.Bands.blacken.Goals as goal
-
-pub index_mut-requires : goal.index_mut-requires
-index_mut-requires c =
-    let items : List (List ℕ) = c.self.inside.bands.items in
-    let w : ℕ = c.self.inside.width in
-    let within : c.args.y < c.self.inside.height = subst (λ m. c.args.y < m) (sym (ap (λ (s : BandedPage). s.page.height) c.self.view_is) ∙ height-page_of_bands _ _ _) c.requires.line in
-    let at = at_line (pos c.args.y) c.args.y refl in
-    let some : is_there (band_at items (c.args.y / 64)) ≡ true =
-    band_ready c.self.inside.width c.self.inside.height items c.args.self.now c.args.y c.self.view_is
-    (c.requires.ready c.args.y at.0 at.1 c.requires.line) in
-    let there : c.args.y / 64 < length items = there_within items (c.args.y / 64) some in
-    search (rules, there)
 
 pub blacken-requires-clause-within : goal.blacken-requires-clause-within
 blacken-requires-clause-within c =

@@ -27,12 +27,6 @@ returns-clause-dot c =
     let wide : c.args.self.now.page.width ≡ c.self.inside.width = sym (ap (λ (b : BandedPage). b.page.width) c.self.view_is) ∙ width-page_of_bands _ _ _ in
     c.is_black.ensures ∙ c.line.ensures.dots c.args.x (omega arith)
 
-pub returns-clause-right : goal.returns-clause-right
-returns-clause-right c past =
-    let wide : c.args.self.now.page.width ≡ c.self.inside.width =
-    sym (ap (λ (b : BandedPage). b.page.width) c.self.view_is) ∙ width-page_of_bands _ _ _ in
-    absurd (omega arith)
-
 pub returns-clause-below : goal.returns-clause-below
 returns-clause-below c past =
     let high : c.args.self.now.page.height ≡ c.self.inside.height =

@@ -1,21 +1,11 @@
-use Rattle.std.proofs.Common.{◌≡◌, ◌∙◌, ◌<◌, ℤ, pos, inl, inr, ap, sym, subst, to_z, of_z, w64, replicate, arith}
+use Rattle.std.proofs.Common.{◌≡◌, ◌∙◌, ◌<◌, ℤ, pos, ap, to_z, of_z, w64, replicate, arith}
 use Rattle.std.proofs.lemmas.Int.{to_z_pos}
-use Rattle.press_bits.specs.Bands.{AreReady}
 use Rattle.press_bits.specs.Mark.{painted, row, row_mark}
 use Rattle.press_bits.proofs.MarkLemmas.{IsAllBlack-replicate}
 use Rattle.press_bits.proofs.bands.Bands.ink.Goals as goal
 
 pub paint_dots-requires-clause-black : goal.paint_dots-requires-clause-black
 paint_dots-requires-clause-black c = λ _. (IsAllBlack-replicate 2048 c.args.dots (omega (arith, c.requires.narrow))).black
-
-pub paint_dots-requires-clause-ready : goal.paint_dots-requires-clause-ready
-paint_dots-requires-clause-ready c =
-    let small : c.args.y < 9223372036854775808 = omega arith in
-    let line : to_z w64 (of_z w64 c.from-2.result) ≡ pos c.args.y = ap (λ (z : ℤ). to_z w64 (of_z w64 z)) c.from-2.ensures ∙ to_z_pos w64 c.args.y small in
-    elim c.requires.ready [
-      | inl white ↦ inl white
-      | inr ready ↦ inr (subst (λ (z : ℤ). AreReady c.args.self.now z 1) (sym line) ready)
-    ]
 
 pub returns-clause-painted : goal.returns-clause-painted
 returns-clause-painted c =

@@ -53,12 +53,6 @@ returns-then-not-has_band-clause-painted c =
           ∙ gone))
     ]
 
-pub index_mut-requires : goal.index_mut-requires
-index_mut-requires c =
-    let some : is_there (band_at c.self.inside.bands.items (c.in-Some.line / 64)) ≡ true = sym c.has_band.ensures ∙ search rules in
-    let few : c.in-Some.line / 64 < length c.self.inside.bands.items = there_within c.self.inside.bands.items (c.in-Some.line / 64) some in
-    search (rules, few)
-
 pub paint-requires-clause-within : goal.paint-requires-clause-within
 paint-requires-clause-within c =
     let items : List (List ℕ) = c.self.inside.bands.items in
@@ -72,28 +66,6 @@ paint-requires-clause-within c =
     let full : 0 < c.run_within-run.result.count = omega arith in
     in_bytes c.self.inside.width c.line_bytes.result c.run_within-run.result.first c.run_within-run.result.count c.args.source.dots
     c.run_within-run.result.skip _ _ c.line_bytes.ensures long (omega arith) c.run_within-run.ensures.count full
-
-pub paint-requires-clause-long : goal.paint-requires-clause-long
-paint-requires-clause-long c =
-    let some : is_there (band_at c.self.inside.bands.items (c.in-Some.line / 64)) ≡ true = sym c.has_band.ensures ∙ search rules in
-    let there : c.in-Some.line / 64 < length c.self.inside.bands.items = there_within c.self.inside.bands.items (c.in-Some.line / 64) some in
-    let band : c.index_mut.result.now ≡ band_at c.self.inside.bands.items (c.in-Some.line / 64) =
-    c.index_mut.ensures.value ∙ get_or_default c.self.inside.bands.items (c.in-Some.line / 64) c.index_mut.result.now [] there in
-    let long : length c.index_mut.result.now ≡ 64 * bytes_per_line c.self.inside.width =
-    ap length band
-    ∙ there_long c.self.inside.width c.self.inside.height c.self.inside.bands.items (c.in-Some.line / 64) c.self.invariant some in
-    omega (arith, long, c.self.invariant.some_width)
-
-pub paint-requires-clause-small : goal.paint-requires-clause-small
-paint-requires-clause-small c =
-    let some : is_there (band_at c.self.inside.bands.items (c.in-Some.line / 64)) ≡ true = sym c.has_band.ensures ∙ search rules in
-    let there : c.in-Some.line / 64 < length c.self.inside.bands.items = there_within c.self.inside.bands.items (c.in-Some.line / 64) some in
-    let band : c.index_mut.result.now ≡ band_at c.self.inside.bands.items (c.in-Some.line / 64) =
-    c.index_mut.ensures.value ∙ get_or_default c.self.inside.bands.items (c.in-Some.line / 64) c.index_mut.result.now [] there in
-    let long : length c.index_mut.result.now ≡ 64 * bytes_per_line c.self.inside.width =
-    ap length band
-    ∙ there_long c.self.inside.width c.self.inside.height c.self.inside.bands.items (c.in-Some.line / 64) c.self.invariant some in
-    omega (arith, long, c.self.invariant.most_width)
 
 pub invariant_of-self : goal.invariant_of-self
 invariant_of-self c =
