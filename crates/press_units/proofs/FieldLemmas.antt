@@ -1,5 +1,5 @@
 -- A value field cut at its sign and its point, and its digits.
-use Rattle.std.proofs.Common.{◌≡◌, ◌<◌, ◌≤◌, ◌+◌, ◌-◌, ◌*◌, ◌∙◌, ℕ, List, [], ◌∷◌, ◌++◌, length, take, drop, Bool, true, false, Option}
+use Rattle.std.proofs.Common.{◌≡◌, ◌<◌, ◌≤◌, ◌+◌, ◌-◌, ◌∙◌, ℕ, List, [], ◌∷◌, ◌++◌, length, take, drop, Bool, true, false, Option}
 use Rattle.std.proofs.Common.{Some, None, IfSome, option_to_list, position, cond, eqb, nat_lt, get_or, refl, sym, ap, subst, arith}
 use Rattle.std.specs.Prelude.{unwrap_or, is_some, ℤ}
 use Rattle.std.specs.Option.{option_map}
@@ -11,7 +11,7 @@ use Rattle.std.proofs.lemmas.List.{take_all, drop_all, take_rest, take_at, drop_
 use Rattle.std.proofs.lemmas.List.Elements.{recursion_from_All, All-nil}
 use Rattle.std.proofs.lemmas.List.Sums.{split_at_first, passes_at_first}
 use Rattle.press_units.specs.Field.{Parts, AreParts, IsSign, spelling, fraction_bytes, longest_field, IsField, is_sign, is_point}
-use Rattle.press_units.specs.Value.{sign_of, unsigned_part, fraction_of, parts_of, number_of_parts, tenthousandths_of, is_signed, IsNumberOf, number_of, four_digits}
+use Rattle.press_units.specs.Value.{sign_of, unsigned_part, fraction_of, parts_of, number_of_parts, tenthousandths_of, is_signed, IsNumberOf}
 use Rattle.press_units.proofs.FieldTest.{sign-true, sign-from}
 
 -- what stands round the first element that passes
@@ -70,16 +70,6 @@ unsigned-spelling : (sign : Option ℕ) (whole : List ℕ) (fraction : Option (L
     → unsigned_part (option_to_list sign ++ (whole ++ fraction_bytes fraction)) ≡ whole ++ fraction_bytes fraction
 unsigned-spelling None whole fraction is_one digits = no_sign whole fraction digits
 unsigned-spelling (Some sign) whole fraction is_one digits = unsigned-after_sign sign _ is_one
-
--- four digits as a number, by their places
-pub number_of-four_digits : (digits : List ℕ)
-    → 1000 * (get_or digits 0 48 - 48) + 100 * (get_or digits 1 48 - 48) + 10 * (get_or digits 2 48 - 48) + (get_or digits 3 48 - 48)
-    ≡ number_of (four_digits digits)
-number_of-four_digits [] = refl
-number_of-four_digits (a ∷ []) = omega arith
-number_of-four_digits (a ∷ b ∷ []) = omega arith
-number_of-four_digits (a ∷ b ∷ c ∷ []) = omega arith
-number_of-four_digits (a ∷ b ∷ c ∷ d ∷ digits) = omega arith
 
 -- the sign at the front
 no_sign_of : (whole : List ℕ) (fraction : Option (List ℕ)) → AllByRecursion IsAsciiDigit whole → sign_of (whole ++ fraction_bytes fraction) ≡ None

@@ -1,7 +1,7 @@
-use Rattle.std.proofs.Common.{ℕ, ℤ, pos, negsuc, ◌≤◌, ◌<◌, ◌*◌, ◌^◌, ◌≡◌, ◌∙◌, ◌*ℤ◌, w64, arith, rules, ap}
+use Rattle.std.proofs.Common.{ℕ, ℤ, pos, ◌≤◌, ◌<◌, ◌*◌, ◌^◌, ◌≡◌, ◌∙◌, ◌*ℤ◌, w64, arith, rules, ap}
 use Rattle.std.specs.Prelude.{int_div, unsigned_abs}
 use mir.Val.{to_z, of_z, SFits}
-use Rattle.std.proofs.lemmas.Int.{ints, to_z-of_z, quot_fits, fits_signed_mul, unsigned_abs-mul}
+use Rattle.std.proofs.lemmas.Int.{ints, to_z-of_z, quot_fits, fits_signed_mul}
 use Rattle.press_units.proofs.position.position_of.Goals as goal
 
 -- the code's quotient of a product, where all fits
@@ -19,26 +19,9 @@ product_fits t u distance small e below =
     let distance_bound : unsigned_abs u ≤ 4294967295 = rw e (omega arith) in
     fits_signed_mul w64 t u 2147483647 4294967295 (omega arith) distance_bound (omega arith)
 
--- ten thousand times a quotient by ten thousand is at most what is divided
-quotient_bound : (product : ℤ) → 10000 * unsigned_abs (int_div product (pos 10000)) ≤ unsigned_abs product
-quotient_bound (pos n) = omega (arith, ints)
-quotient_bound (negsuc n) = omega (arith, ints)
-
-product_bound : (t u : ℤ) (distance : ℕ) → u ≡ pos distance → 10000 * unsigned_abs (int_div (t *ℤ u) (pos 10000)) ≤ unsigned_abs t * distance
-product_bound t u distance e =
-    let size : unsigned_abs u ≡ distance = ap unsigned_abs e in
-    rw (unsigned_abs-mul t u, size) at (quotient_bound (t *ℤ u))
-
 pub returns-clause-position : goal.returns-clause-position
 returns-clause-position c =
     let fits_value : SFits w64 c.args.tenthousandths = search rules in
     let fits_distance : SFits w64 c.from.result = search rules in
     let fits_product = product_fits c.args.tenthousandths c.from.result c.args.distance c.requires c.from.ensures (search rules) in
     quotient c.args.tenthousandths c.from.result fits_value fits_distance fits_product ∙ ap (λ (u : ℤ). int_div (c.args.tenthousandths *ℤ u) (pos 10000)) c.from.ensures
-
-pub returns-clause-bound : goal.returns-clause-bound
-returns-clause-bound c =
-    let fits_value : SFits w64 c.args.tenthousandths = search rules in
-    let fits_distance : SFits w64 c.from.result = search rules in
-    let fits_product = product_fits c.args.tenthousandths c.from.result c.args.distance c.requires c.from.ensures (search rules) in
-    rw (quotient c.args.tenthousandths c.from.result fits_value fits_distance fits_product) (product_bound c.args.tenthousandths c.from.result c.args.distance c.from.ensures)
