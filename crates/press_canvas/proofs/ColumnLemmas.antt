@@ -91,10 +91,6 @@ columns_all back w h frame n all =
     page_where_alike w h _ (turned_dot (across back) w h frame)
     (λ x m _ above. all_done (place_at (not back) h m) n (turned_dot (across back) w h frame x m) (omega (arith, place_within (not back) h m above, all)))
 
-pub column_past : (page : Page) (back : Bool) (columns column : ℕ) (dots : ℕ → Bool) → columns ≤ column → page ≡ with_column page back columns column dots
-column_past page back columns column dots past =
-    ap (λ (t : Bool). if t then with_line page (place_at (not back) columns column) dots else page) (sym (test_false column columns past))
-
 pub column_written : (page : Page) (back : Bool) (columns column y : ℕ) (bits dots : ℕ → Bool) → column < columns → y ≡ place_at (not back) columns column →
     ((x : ℕ) → x < page.width → bits x ≡ dots x) → with_line page y bits ≡ with_column page back columns column dots
 column_written page back columns column y bits dots within is same =

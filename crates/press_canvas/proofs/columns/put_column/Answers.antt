@@ -5,16 +5,13 @@ use Rattle.press_bits.proofs.BandLemmas.{after_ok}
 use Rattle.press_bits.proofs.LineLemmas.{row_dot-slice}
 use Rattle.press_canvas.specs.Turned.{with_line}
 use Rattle.press_canvas.specs.Strip.{place_at, strip_dot, with_column}
-use Rattle.press_canvas.proofs.ColumnLemmas.{column_past, column_written, place_within}
+use Rattle.press_canvas.proofs.ColumnLemmas.{column_written, place_within}
 use Rattle.press_canvas.proofs.columns.put_column.Goals as goal
 
 line_dots : (strip bytes : List ℕ) (line count q : ℕ) → count ≡ 2048 → bytes ≡ take count (drop (line * 2112) strip) → q < 16384 → row_dot bytes q ≡ strip_dot strip line q
 line_dots strip bytes line count q all is low =
     let at : 8 * (line * 2112) + q ≡ 16896 * line + q = omega arith in
     ap (λ (b : List ℕ). row_dot b q) (is ∙ ap (λ n. take n (drop (line * 2112) strip)) all) ∙ row_dot-slice strip (line * 2112) 2048 q low ∙ ap (row_dot strip) at
-
-pub returns-then-column-columns-clause-put : goal.returns-then-column-columns-clause-put
-returns-then-column-columns-clause-put c = column_past c.args.page.now c.args.back c.args.columns c.args.column _ (omega (arith, c.if-column-columns.true))
 
 pub returns-clause-put : goal.returns-clause-put
 returns-clause-put c =

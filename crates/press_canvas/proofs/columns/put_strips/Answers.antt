@@ -12,11 +12,6 @@ loop-index-init c = record {
   page = c.requires.page ∙ columns_none c.args.back c.args.frame.now.height c.args.frame.now.width c.args.frame.now;
 }
 
-pub loop-line-init : goal.loop-line-init
-loop-line-init c =
-    let at : 64 * c.loop-index.index ≡ 64 * c.loop-index.index + 0 = omega arith in
-    record { room = c.loop-index.invariant.room; page = c.loop-index.invariant.page ∙ ap (columns_before c.args.back c.args.frame.now.height c.args.frame.now.width c.args.frame.now) at }
-
 pub put_column-requires-clause-most : goal.put_column-requires-clause-most
 put_column-requires-clause-most c =
     let wide : c.loop-line.page.width ≡ c.args.frame.now.height = ap (λ (p : Page). p.width) c.loop-line.invariant.page ∙ width-page_where _ _ _ in
@@ -47,14 +42,6 @@ loop-line-preserved c =
           (λ i. strip_dot c.fill_strip.new.strip (line i) (place_at c.args.back (wide i) x))
           ∙ c.fill_strip.ensures.dots c.loop-line.line (place_at c.args.back frame.height x) c.loop-line-test.true (place_within c.args.back frame.height x left) within)
           ∙ ap (columns_before c.args.back frame.height frame.width frame) next;
-    }
-
-pub loop-index-preserved : goal.loop-index-preserved
-loop-index-preserved c =
-    let at : 64 * c.loop-index.index + c.loop-line.line ≡ 64 * (c.loop-index.index + 1) = omega (arith, c.loop-line-test.false) in record {
-      room = c.loop-line.invariant.room;
-      long = c.fill_strip.ensures.long;
-      page = c.loop-line.invariant.page ∙ ap (columns_before c.args.back c.args.frame.now.height c.args.frame.now.width c.args.frame.now) at;
     }
 
 pub returns : goal.returns

@@ -1,4 +1,4 @@
-use Rattle.std.proofs.Common.{◌≡◌, ◌∙◌, ◌-◌, ◌*◌, ◌<◌, ℕ, true, false, refl, ap, subst, sym, rules, arith}
+use Rattle.std.proofs.Common.{◌≡◌, ◌∙◌, ◌-◌, ◌*◌, ◌<◌, ℕ, true, refl, ap, subst, sym, rules, arith}
 use Rattle.press_bits.specs.Mark.{row_dot}
 use Rattle.press_bits.specs.Page.{Page}
 use Rattle.press_bits.proofs.BandLemmas.{after_ok}
@@ -7,16 +7,6 @@ use Rattle.press_canvas.specs.Turned.{with_line}
 use Rattle.press_canvas.proofs.ColumnLemmas.{place_within}
 use Rattle.press_canvas.proofs.LineLemmas.{row_dot-prefix, white_line, with_line_alike}
 use Rattle.press_canvas.proofs.lines.put_row.Goals as goal
-
-pub returns-then-not-back-clause-put : goal.returns-then-not-back-clause-put
-returns-then-not-back-clause-put c =
-    let page : Page = c.args.page.now in
-    let bits = c.args.bits.now in
-    let forward : c.args.back ≡ false = search rules in
-    after_ok {P = c.put_line.new.page ≡ with_line page c.args.y (row_dot bits)}
-    {Q = c.put_line.new.page ≡ with_line page c.args.y (λ x. row_dot bits (place_at c.args.back page.width x))} c.put_line.result
-    (λ is. is ∙ with_line_alike page c.args.y (row_dot bits) (λ x. row_dot bits (place_at c.args.back page.width x)) (λ x _. ap (λ b. row_dot bits (place_at b page.width x)) (sym forward)))
-    c.put_line.ensures
 
 pub returns-then-is_white-clause-put : goal.returns-then-is_white-clause-put
 returns-then-is_white-clause-put c =

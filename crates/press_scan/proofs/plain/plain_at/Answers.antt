@@ -1,7 +1,7 @@
 use Rattle.std.proofs.Common.{◌≡◌, ◌∙◌, ◌∷◌, true, refl, sym}
 use Rattle.press_cmd.specs.Grammar.{begins_pair}
 use Rattle.press_cmd.specs.ParserState.{Pcl, Open}
-use Rattle.press_scan.proofs.PlainLaws.{found_next, found_within}
+use Rattle.press_scan.proofs.PlainLaws.{found_next}
 use Rattle.press_scan.proofs.ScannerLaws.{found_passes}
 use Rattle.press_scan.proofs.plain.plain_at.Goals as goal
 
@@ -11,17 +11,9 @@ returns-in-Pcl-clause-next c = λ ended.
     rw (c.in-Pcl.is, c.in_ok-first.ensures.cases.0)
     (found_passes Pcl Pcl (c.in_ok-first.first.now ∷ rest) ended c.control_found.result refl (c.control_found.ensures rest))
 
-pub returns-in-Pcl-2-clause-within : goal.returns-in-Pcl-2-clause-within
-returns-in-Pcl-2-clause-within c = found_within Pcl c.args.bytes.now c.whole_sequence.result c.whole_sequence.ensures
-
 pub returns-in-Pcl-2-clause-next : goal.returns-in-Pcl-2-clause-next
 returns-in-Pcl-2-clause-next c =
     rw c.in-Pcl-2.is (found_next Pcl Pcl c.args.bytes.now c.whole_sequence.result refl c.whole_sequence.ensures)
-
-pub returns-in-Open-clause-within : goal.returns-in-Open-clause-within
-returns-in-Open-clause-within c =
-    let sequence = c.in-Open.sequence in
-    found_within (Open sequence.character sequence.group) c.args.bytes.now c.further_pair.result c.further_pair.ensures
 
 pub returns-in-Open-clause-next : goal.returns-in-Open-clause-next
 returns-in-Open-clause-next c =

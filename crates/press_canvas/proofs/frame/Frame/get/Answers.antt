@@ -1,17 +1,7 @@
 use Rattle.std.proofs.Common.{◌∙◌, sym, ap, arith}
 use Rattle.press_bits.specs.Page.{black_at}
-use Rattle.press_canvas.proofs.CatchLemmas.{dot_of_page, white_outside}
+use Rattle.press_canvas.proofs.CatchLemmas.{dot_of_page}
 use Rattle.press_canvas.proofs.frame.Frame.get.Goals as goal
-use Rattle.press_canvas.proofs.frame.Frame.get.Goals.{then-x-page-via-then-x-page, then-x-page-via-else-x-page+then-y-page}
-
-pub returns-then-x-page : goal.returns-then-x-page
-returns-then-x-page c =
-    let frame = c.args.self.now in
-    white_outside frame.orientation frame.bitmap c.page_extent-page.result c.args.x c.args.y c.page_extent-page.ensures.extent
-    (λ wide high. elim c.then-x-page.branch [
-      | then-x-page-via-then-x-page w ↦ omega (arith, w.if-x-page, wide)
-      | then-x-page-via-else-x-page+then-y-page w ↦ omega (arith, w.if-y-page, high)
-    ])
 
 pub returns : goal.returns
 returns c =

@@ -1,8 +1,5 @@
 use Rattle.std.proofs.Common.{ℕ, ◌-◌, List, length, drop, subst, refl, sym, ap, ◌∙◌, arith, length-take, length-drop}
 use Rattle.press_scan.specs.Modes.{mode_of}
-use Rattle.press_scan.specs.Lines.{IsKnownPlain}
-use Rattle.press_scan.specs.Awaited.{IsAwaited}
-use Rattle.press_scan.specs.Peeks.{scanner_state, in_room}
 use Rattle.press_scan.specs.Gives.{IsDone}
 use Rattle.std.proofs.lemmas.List.{take_rest}
 use Rattle.press_scan.proofs.AwaitedLaws.{done-awaited}
@@ -26,35 +23,9 @@ returns-then-not-self c =
     let done : IsDone c.args.self.now = subst IsDone c.self.view_is (done_in c.self.inside.room _ (rw (sym c.if-not-self.true) at none)) in
     ((refl, λ _. tt, c.self.view_is), record { ok = refl; some = tt; none = done; free = omega (arith, done.few); after = tt })
 
-pub peek-plain-requires : goal.peek-plain-requires
-peek-plain-requires c =
-    let same = take_rest c.deref.result.now c.self.inside.start ∙ ap (drop c.self.inside.start) c.deref.ensures.value in
-    subst (λ (held : List ℕ). IsKnownPlain held c.self.inside.searched) (sym same) c.self.invariant.1
-
 pub returns-in-Some : goal.returns-in-Some
 returns-in-Some c =
     let same = take_rest c.deref.result.now c.self.inside.start ∙ ap (drop c.self.inside.start) c.deref.ensures.value in
     let passes = passes_behind (mode_of c.self.inside.mode) c.self.inside.ended c.self.inside.buffer.items _ c.self.inside.start c.self.inside.room c.in-Some.found c.args.self.now same c.self.view_is
     (rw c.in-Some.is at c.peek-plain.ensures.found) in
     ((refl, λ _. tt, passes), record { ok = refl; some = (_, passes); none = tt; free = tt; after = tt })
-
-pub returns-in-None : goal.returns-in-None
-returns-in-None c =
-    let same = take_rest c.deref.result.now c.self.inside.start ∙ ap (drop c.self.inside.start) c.deref.ensures.value in
-    let none = rw c.in-None.is at c.peek-plain.ensures.found in
-    let done : IsDone c.args.self.now =
-    subst IsDone (ap
-    (λ (held : List ℕ). in_room c.self.inside.room (scanner_state (mode_of c.self.inside.mode) held c.self.inside.ended))
-    same
-    ∙ c.self.view_is)
-    (done_in c.self.inside.room _ none) in
-    ((refl, λ _. tt, c.self.view_is), record { ok = refl; some = tt; none = done; free = omega (arith, done.few); after = tt })
-
-pub invariant_of-self-in-None : goal.invariant_of-self-in-None
-invariant_of-self-in-None c =
-    let same = take_rest c.deref.result.now c.self.inside.start ∙ ap (drop c.self.inside.start) c.deref.ensures.value in (
-      c.self.invariant.0,
-      subst (λ (held : List ℕ). IsKnownPlain held c.peek-plain.result.1) same c.peek-plain.ensures.known,
-      subst (λ (held : List ℕ). IsAwaited (mode_of c.self.inside.mode) held c.awaited-self-inside.result) same c.awaited-self-inside.ensures,
-      c.self.invariant.3,
-    )
