@@ -1,17 +1,15 @@
 -- What a form adds, and how it is refused.
-use Rattle.std.proofs.Common.{◌≡◌, ◌∙◌, ◌⊎◌, ℕ, List, [], ◌∷◌, ◌++◌, length, refl, sym, ap, subst, inl, inr, append-nil}
-use Rattle.std.specs.Prelude.{Option, Some, None, Ok, codes}
-use Rattle.std.specs.Option.{ForSome}
+use Rattle.std.proofs.Common.{◌≡◌, ◌∙◌, ℕ, List, [], ◌∷◌, ◌++◌, length, refl, sym, ap, subst, append-nil}
+use Rattle.std.specs.Prelude.{Option, Some, Ok}
 use Rattle.std.specs.Str.{IsUtf8}
 use Rattle.hex.specs.Hex.{decode_of}
-use Rattle.press_cmd.specs.Token.{Token, Broken, PjlLine, uel, param_of, bytes_of}
+use Rattle.press_cmd.specs.Token.{Token, Broken, PjlLine, param_of, bytes_of}
 use Rattle.press_cmd.specs.Carried.{data_count}
-use Rattle.press_cmd.specs.Grammar.{IsGroup, IsEnd, IsPjlLine}
-use Rattle.press_cmd.proofs.ExitTest.{exit-plain}
+use Rattle.press_cmd.specs.Grammar.{IsPjlLine}
 use Rattle.press_units.specs.Field.{IsField}
-use Rattle.press_asm.specs.Form.{Form, ParamForm, BrokenForm, LineForm, Gives, word}
+use Rattle.press_asm.specs.Form.{Form, ParamForm, BrokenForm, LineForm, Gives}
 use Rattle.press_asm.specs.Reading.{form_of}
-use Rattle.press_asm.specs.Judged.{NoBytes, HasFormFault, HasLineFault, FormAdds, LineAdds}
+use Rattle.press_asm.specs.Judged.{HasFormFault, HasLineFault, FormAdds, LineAdds}
 use Rattle.press_asm.specs.declared.fault.LineFault.{LineFault}
 use Rattle.press_asm.specs.declared.fault.LineFault.TheVariants.{Line, Value, Data, NoMemory}
 use Rattle.press_asm.specs.declared.form.Form.{Form as ReadForm}
@@ -26,12 +24,6 @@ one_added form t old new gives e = (t ∷ [], gives, e ∙ ap (λ x. old ++ x) (
 pub seen_added : (f : ReadForm) (form : Form) (t : Token) (old new : List ℕ) → form_seen f ≡ form → Gives form (t ∷ []) → new ≡ old ++ bytes_of t → FormAdds (form_seen f) old new
 seen_added f form t old new is gives e = subst (λ (x : Form). FormAdds x old new) (sym is) (one_added form t old new gives e)
 
--- a parameter whose word is no universal exit
-pub param_no_exit : (c : ℕ) (g : Option ℕ) (f : List ℕ) (e : ℕ) (payload : List ℕ) → ForSome g IsGroup → IsEnd e → (word c g f e ≡ codes "%-12345X" → ⊥)
-    → bytes_of (param_of c g f e payload) ≡ uel → ⊥
-param_no_exit c None f e payload group end other exit = let plain = (exit-plain c None f e payload group end exit).1 in other (cc)
-param_no_exit c (Some g) f e payload group end other exit = let plain = (exit-plain c (Some g) f e payload group end exit).0 in cc
-
 pub param_added : (c : ℕ) (g : Option ℕ) (f : List ℕ) (e : ℕ) (d payload old new x : List ℕ) (t : Token) → IsField f → decode_of d ≡ Ok payload
     → length payload ≡ data_count c g f e → t ≡ param_of c g f e x → x ≡ payload → new ≡ old ++ bytes_of t → FormAdds (ParamForm c g f e d) old new
 param_added c g f e d payload old new x t field bytes count is same added =
@@ -44,13 +36,6 @@ broken_added d bytes old new is same = one_added (BrokenForm d) (Broken bytes) o
 pub line_added : (d bytes old new x y : List ℕ) → decode_of d ≡ Ok bytes → IsPjlLine x → x ≡ bytes → y ≡ bytes → new ≡ old ++ y → FormAdds (LineForm d) old new
 line_added d bytes old new x y is line first second same =
     one_added (LineForm d) (PjlLine bytes) old new (PjlLine bytes, refl, (bytes, is, subst IsPjlLine first line, refl)) (same ∙ ap (λ z. old ++ z) second)
-
--- a parameter whose digits are those of no bytes, or for which there was no memory
-pub param_digits : (c : ℕ) (g : Option ℕ) (f : List ℕ) (e : ℕ) (d : List ℕ) (fault : LineFault) → IsField f → (fault ≡ NoMemory) ⊎ ((fault ≡ Data) × NoBytes d)
-    → HasFormFault (ParamForm c g f e d) fault
-param_digits c g f e d fault field (inl memory) = subst (λ (x : LineFault). HasFormFault (ParamForm c g f e d) x) (sym memory) tt
-param_digits c g f e d fault field (inr none) =
-    subst (λ (x : LineFault). HasFormFault (ParamForm c g f e d) x) (sym none.0) (field, λ commands gives. none.1 gives.2.1 gives.2.2)
 
 -- a parameter whose data is not as long as its value says
 pub param_count : (c : ℕ) (g : Option ℕ) (f : List ℕ) (e : ℕ) (d payload : List ℕ) → IsField f → decode_of d ≡ Ok payload → (length payload ≡ data_count c g f e → ⊥)

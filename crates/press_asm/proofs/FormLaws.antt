@@ -1,12 +1,12 @@
 -- A line has the form that is read from its left, and no other.
 use Rattle.std.proofs.Common.{◌≡◌, ◌∙◌, ◌<◌, ◌≤◌, ◌+◌, ◌-◌, ◌&&◌, ℕ, List, [], ◌∷◌, ◌++◌, Bool, true, false, cond, not, length}
-use Rattle.std.proofs.Common.{get_or, take, drop, reverse, position, eqb, nat_lt, refl, sym, ap, subst, inl, inr, arith, append-nil}
+use Rattle.std.proofs.Common.{take, drop, reverse, position, eqb, nat_lt, refl, sym, ap, subst, inl, inr, arith, append-nil}
 use Rattle.std.specs.Prelude.{codes, bytes_eq, Option, Some, None, Result, Ok, Err, option_to_list, option_and_then, ◌⊎◌}
 use Rattle.std.specs.Option.{ForSome}
 use Rattle.std.specs.List.{list_all, position_or_len}
 use Rattle.std.specs.Int.{is_in_range}
 use Rattle.std.proofs.lemmas.Bool.{and_parts, not-true, eqb-true, ne_eqb, eqb-false, false_from_ne_true, lt-ltb, le-ltb}
-use Rattle.std.proofs.lemmas.List.{reverse-append, reverse-reverse, take-append-drop, take_rest}
+use Rattle.std.proofs.lemmas.List.{reverse-append, reverse-reverse, take-append-drop}
 use Rattle.std.proofs.Math.Seq.{drop-append-add, take-append_seam}
 use Rattle.std.proofs.lemmas.List.Folds.{list_all-append}
 use Rattle.std.proofs.lemmas.Slice.Eq.{bytes_eq-Decides}
@@ -88,25 +88,6 @@ ending w c g f e d character end no_exit =
     ∙ ap (λ t. cond (t && is_in_range 64 94 e) (Some (ParamForm c g (reverse (reverse f)) e d)) None) (range-from 33 47 c character)
     ∙ ap (λ t. cond t (Some (ParamForm c g (reverse (reverse f)) e d)) None) (range-from 64 94 e end)
     ∙ ap (λ r. Some (ParamForm c g r e d)) (reverse-reverse f)
-
--- the parameter of a word, by its parts
-pub word_in-parts : (w after field digits : List ℕ) (end : ℕ) (group : Option ℕ) → 1 ≤ length w → group ≡ (split_group (take (length w - 1) (drop 1 w))).0
-    → after ≡ (split_group (take (length w - 1) (drop 1 w))).1 → after ≡ field ++ (end ∷ []) → bytes_eq w (codes "%-12345X") ≡ false
-    → IsCharacter (get_or w 0 0) → IsEnd end → Some (ParamForm (get_or w 0 0) group field end digits) ≡ word_in w digits
-word_in-parts [] after field digits end group some first later parts other character ends = absurd (omega arith)
-word_in-parts (c ∷ rest) after field digits end group some first later parts other character ends =
-    let tail = take_rest (c ∷ rest) 1 in
-    sym (ap (λ g. param_ending (bytes_eq (c ∷ rest) (codes "%-12345X")) c g (reverse (split_group rest).1) digits) (sym (first ∙ ap (λ r. (split_group r).0) tail))
-    ∙ ap (λ r. param_ending (bytes_eq (c ∷ rest) (codes "%-12345X")) c group (reverse r) digits) (sym (sym parts ∙ later ∙ ap (λ r. (split_group r).1) tail))
-    ∙ ending (c ∷ rest) c group field end digits character ends (exit_not (c ∷ rest) other))
-
--- which is no universal exit where the word is none
-pub word_in-no_exit : (w after field : List ℕ) (end : ℕ) (group : Option ℕ) → 1 ≤ length w → take (length w - 1) (drop 1 w) ≡ option_to_list group ++ after
-    → after ≡ field ++ (end ∷ []) → bytes_eq w (codes "%-12345X") ≡ false → word (get_or w 0 0) group field end ≡ codes "%-12345X" → ⊥
-word_in-no_exit [] after field end group some spelled parts other is = absurd (omega arith)
-word_in-no_exit (c ∷ rest) after field end group some spelled parts other is =
-    let tail = take_rest (c ∷ rest) 1 in
-    exit_not (c ∷ rest) other (ap (λ r. c ∷ r) (sym tail ∙ spelled ∙ ap (λ r. option_to_list group ++ r) parts) ∙ is)
 
 no_group_split : (f : List ℕ) (e : ℕ) → IsEnd e → ((b : ℕ) (later : List ℕ) → f ≡ b ∷ later → IsGroup b → ⊥) → split_group (f ++ (e ∷ [])) ≡ (None, f ++ (e ∷ []))
 no_group_split [] e end none = ap (λ t. cond t (Some e, []) (None, e ∷ [])) (range-below 96 126 e (omega (arith, end)))

@@ -1,10 +1,10 @@
 -- The form of a line is read by its first four bytes.
-use Rattle.std.proofs.Common.{◌≡◌, ◌∙◌, ◌+◌, ℕ, List, true, false, cond, length, take, drop, min, sym, ap, inl, inr, arith}
+use Rattle.std.proofs.Common.{◌≡◌, ◌∙◌, ℕ, List, false, cond, length, take, drop, min, sym, ap, inl, inr, arith}
 use Rattle.std.proofs.lemmas.Bool.{cases_lt}
 use Rattle.std.proofs.lemmas.List.{take_all, drop_all}
-use Rattle.std.specs.Prelude.{codes, bytes_eq, position, Some, None}
-use Rattle.press_asm.specs.Form.{Blank, ExitForm, is_space}
-use Rattle.press_asm.specs.Reading.{are_digits, word_in, param_at, param_in, named_in, is_blank, form_of}
+use Rattle.std.specs.Prelude.{codes, bytes_eq, Some}
+use Rattle.press_asm.specs.Form.{Blank, ExitForm}
+use Rattle.press_asm.specs.Reading.{named_in, is_blank, form_of}
 
 pub take_least : (n : ℕ) (xs : List ℕ) → n ≡ min (length xs) 4 → take n xs ≡ take 4 xs
 take_least n xs e =
@@ -26,14 +26,3 @@ named-form_of line name rest prefix back full other =
     ap (λ n. named_in n rest) prefix ∙ ap (named_in (take 4 line)) back
     ∙ sym (ap (λ b. cond b (Some Blank) (cond (bytes_eq line (codes "uel")) (Some ExitForm) (named_in (take 4 line) (drop 4 line)))) full
     ∙ ap (λ b. cond b (Some ExitForm) (named_in (take 4 line) (drop 4 line))) other)
-
--- a parameter with a space, by what stands behind the space
-pub param_in-space : (text rest : List ℕ) (place : ℕ) → Some place ≡ position is_space text → rest ≡ drop (place + 1) text → true ≡ are_digits rest → word_in (take place text) rest ≡ param_in text
-param_in-space text rest place at behind digits =
-    let parameter = word_in (take place text) (drop (place + 1) text) in
-    ap (word_in (take place text)) behind ∙ ap (λ t. cond t parameter None) (digits ∙ ap are_digits behind) ∙ ap (λ o. param_at o text) at
-
-pub param_in-no_digits : (text rest : List ℕ) (place : ℕ) → Some place ≡ position is_space text → rest ≡ drop (place + 1) text → false ≡ are_digits rest → None ≡ param_in text
-param_in-no_digits text rest place at behind other =
-    let parameter = word_in (take place text) (drop (place + 1) text) in
-    ap (λ t. cond t parameter None) (other ∙ ap are_digits behind) ∙ ap (λ o. param_at o text) at

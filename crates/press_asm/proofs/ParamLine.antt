@@ -31,12 +31,6 @@ pub broken_line : (s : Option (ℕ × ℕ)) (bytes : List ℕ) → written_line 
 broken_line None bytes = ap (λ x. codes "brk " ++ x) (digits-append [] bytes)
 broken_line (Some s) bytes = ap (λ x. codes "brk " ++ x) (digits-append (27 ∷ s.0 ∷ s.1 ∷ []) bytes)
 
--- what was appended in parts
-pub in_four : (o a b c d out w x y z : List ℕ) → w ≡ o ++ a → x ≡ w ++ b → y ≡ x ++ c → z ≡ y ++ d → out ≡ a ++ (b ++ (c ++ d)) → z ≡ o ++ out
-in_four o a b c d out w x y z hw hx hy hz h =
-    hz ∙ ap (λ l. l ++ d) (hy ∙ ap (λ l. l ++ c) (hx ∙ ap (λ l. l ++ b) hw))
-    ∙ append_assoc (o ++ a ++ b) c d ∙ append_assoc (o ++ a) b (c ++ d) ∙ append_assoc o a (b ++ (c ++ d)) ∙ ap (λ l. o ++ l) (sym h)
-
 pub in_three : (o a b c out w x y : List ℕ) → w ≡ o ++ a → x ≡ w ++ b → y ≡ x ++ c → out ≡ a ++ (b ++ c) → y ≡ o ++ out
 in_three o a b c out w x y hw hx hy h =
     hy ∙ ap (λ l. l ++ c) (hx ∙ ap (λ l. l ++ b) hw) ∙ append_assoc (o ++ a) b c ∙ append_assoc o a (b ++ c) ∙ ap (λ l. o ++ l) (sym h)

@@ -1,12 +1,11 @@
 -- Which parameters spell the universal exit.
-use Rattle.std.proofs.Common.{◌≡◌, ◌≤◌, ◌++◌, ◌∙◌, ℕ, List, [], ◌∷◌, length, Bool, true, false, Option, Some, None, refl, sym, ap, arith}
+use Rattle.std.proofs.Common.{◌≡◌, ◌≤◌, ◌++◌, ◌∙◌, ℕ, List, [], ◌∷◌, length, Bool, true, false, Option, Some, None, sym, ap, arith}
 use Rattle.std.specs.Prelude.{is_some, bytes_eq, IsTrue, ◌==◌, ◌↔◌}
 use Rattle.std.proofs.lemmas.Bool.{false≢true, eqb-true}
 use Rattle.std.proofs.lemmas.Slice.Eq.{bytes_eq-Decides}
 use Rattle.std.proofs.lemmas.List.{nil_from_length}
 use Rattle.press_cmd.specs.Token.{uel, bytes_of, param_of}
-use Rattle.std.specs.Option.{ForSome}
-use Rattle.press_cmd.specs.Grammar.{IsGroup, IsEnd}
+use Rattle.press_cmd.specs.Grammar.{IsEnd}
 
 -- what follows the character in an exit, cut at a byte from 64 on
 pub record IsExitTail (f : List ℕ) (e : ℕ) (d : List ℕ) : Type 0 where
@@ -28,11 +27,6 @@ exit_tail (a ∷ b ∷ c ∷ x ∷ y ∷ z ∷ w ∷ v ∷ f) e d high h = cc
 exit_param : (c : ℕ) (g : Option ℕ) (f : List ℕ) (e : ℕ) (d : List ℕ) → is_some g ≡ false → IsEnd e → bytes_of (param_of c g f e d) ≡ uel → IsExitTail f e d
 exit_param c None f e d no_group class h = exit_tail f e d class.0 (cc)
 exit_param c (Some g) f e d no_group class h = cc
-
--- a parameter that spells the exit has no group and no data
-pub exit-plain : (c : ℕ) (g : Option ℕ) (f : List ℕ) (e : ℕ) (d : List ℕ) → ForSome g IsGroup → IsEnd e → bytes_of (param_of c g f e d) ≡ uel → (g ≡ None) × (d ≡ [])
-exit-plain c None f e d group class h = (refl, (exit_tail f e d class.0 (cc)).payload)
-exit-plain c (Some g) f e d group class h = let at : g ≡ 45 = cc in let high = group g refl in absurd (omega arith)
 
 pub exit_spelled : (c : ℕ) (g : Option ℕ) → is_some g ≡ false → c ≡ 37 → bytes_of (param_of c g (45 ∷ 49 ∷ 50 ∷ 51 ∷ 52 ∷ 53 ∷ []) 88 []) ≡ uel
 exit_spelled c None no_group e = cc

@@ -1,7 +1,5 @@
-use Rattle.std.proofs.Common.{◌≡◌, ◌∙◌, ◌<◌, ℤ, pos, inl, inr, ap, sym, subst, to_z, of_z, w64, replicate, true, refl, true≢false, rules, arith}
-use Rattle.std.proofs.lemmas.Int.{to_z_pos}
-use Rattle.press_bits.specs.Bands.{AreReady}
-use Rattle.press_bits.specs.Mark.{painted, row, row_mark}
+use Rattle.std.proofs.Common.{◌≡◌, ◌∙◌, inl, inr, sym, replicate, true, refl, true≢false, rules, arith}
+use Rattle.press_bits.specs.Mark.{painted, row}
 use Rattle.press_bits.proofs.MarkLemmas.{IsAllBlack-replicate}
 use Rattle.press_fill.proofs.paint.paint_line.Goals as goal
 
