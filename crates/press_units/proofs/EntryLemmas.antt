@@ -1,5 +1,5 @@
 -- The entries of an index map beside the finite map that they stand for.
-use Rattle.std.proofs.Common.{◌≡◌, ℕ, List, [], ◌∷◌, Bool, Option, Some, None, cond, nat_eq, nat_cmp, refl, sym, ap, ◌∙◌, filter, rules}
+use Rattle.std.proofs.Common.{◌≡◌, ℕ, List, [], ◌∷◌, Bool, Option, Some, None, cond, nat_eq, nat_cmp, refl, sym, ap, ◌∙◌, filter, rules, arith}
 use Rattle.std.specs.Cmp.{nat_cmp_total}
 use Rattle.std.specs.Ordering.{eq_by_cmp}
 use Rattle.std.specs.Map.{lookup, keys_of}
@@ -13,16 +13,9 @@ use Rattle.std.proofs.lemmas.Cmp.{nat_eq_equiv}
 abbrev pub map_of : {X : Type 0} → List (ℕ × X) → maps.FinMap nat_cmp X
 map_of entries = maps.from_entries entries
 
-tie : (q k : ℕ) → eq_by_cmp nat_cmp q k ≡ nat_eq q k
-tie q k = search rules
-
-flip : (k q : ℕ) → nat_eq k q ≡ eq_by_cmp nat_cmp q k
-flip k q = search rules
-
 found_entry : {X : Type 0} (es : List (ℕ × X)) (q : ℕ) → find nat_cmp q es ≡ lookup (nat_eq q) es
 found_entry [] q = refl
-found_entry (e ∷ es) q =
-    ap (λ b. cond b (Some e.1) (find nat_cmp q es)) (tie q e.0) ∙ ap (cond (nat_eq q e.0) (Some e.1)) (found_entry es q)
+found_entry (e ∷ es) q = grind (arith, found_entry es q)
 
 -- what stands under a key is the entry's
 pub get-map_of : {X : Type 0} (es : List (ℕ × X)) (q : ℕ) → maps.get (map_of es) q ≡ lookup (nat_eq q) es
@@ -34,7 +27,7 @@ pub inserted : {X : Type 0} (es fs : List (ℕ × X)) (k : ℕ) (x : X)
     → map_of fs ≡ maps.insert (map_of es) k x
 inserted es fs k x h = same_map nat_cmp_total nat_cmp-IsAntisymmetric _ _ (λ q.
     get-map_of fs q ∙ h q
-    ∙ ap (λ t. cond t (Some x) (lookup (nat_eq q) es)) (flip k q)
+    ∙ ap (λ t. cond t (Some x) (lookup (nat_eq q) es)) (search rules)
     ∙ sym (get-insert nat_cmp_total (map_of es) k x q ∙ ap (cond (eq_by_cmp nat_cmp q k) (Some x)) (get-map_of es q)))
 
 -- the map of entries of which the one under a key was taken out
@@ -43,7 +36,7 @@ pub removed : {X : Type 0} (es fs : List (ℕ × X)) (k : ℕ)
     → map_of fs ≡ maps.remove (map_of es) k
 removed es fs k h = same_map nat_cmp_total nat_cmp-IsAntisymmetric _ _ (λ q.
     get-map_of fs q ∙ h q
-    ∙ ap (λ t. cond t None (lookup (nat_eq q) es)) (flip k q)
+    ∙ ap (λ t. cond t None (lookup (nat_eq q) es)) (search rules)
     ∙ sym (get-remove nat_cmp_total (map_of es) k q ∙ ap (cond (eq_by_cmp nat_cmp q k) None) (get-map_of es q)))
 
 -- what stands under a key where only the keys stay whose entry, if there is one, passes

@@ -1,4 +1,4 @@
-use Rattle.std.proofs.Common.{ℕ, ℤ, pos, ◌≤◌, ◌<◌, ◌*◌, ◌^◌, ◌≡◌, ◌∙◌, ◌*ℤ◌, w64, arith, rules, ap}
+use Rattle.std.proofs.Common.{ℕ, ℤ, pos, ◌≤◌, ◌<◌, ◌^◌, ◌≡◌, ◌∙◌, ◌*ℤ◌, w64, arith, rules, ap}
 use Rattle.std.specs.Prelude.{int_div, unsigned_abs}
 use mir.Val.{to_z, of_z, SFits}
 use Rattle.std.proofs.lemmas.Int.{ints, to_z-of_z, quot_fits, fits_signed_mul}
