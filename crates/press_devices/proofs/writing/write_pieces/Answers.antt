@@ -1,12 +1,9 @@
-use Rattle.std.proofs.Common.{[], refl, sym, subst}
-use Rattle.std.proofs.KnownBytes.{Appends-nil, Appends-trans}
+use Rattle.std.proofs.Common.{sym, subst}
+use Rattle.std.proofs.KnownBytes.{Appends-trans}
 use Rattle.std.proofs.lemmas.Result.{MatchResult-from_err}
 use Rattle.press_devices.specs.Writing.{AppendsPrefix}
 use Rattle.press_devices.proofs.WritesLemmas.{pieces_next, prefix_then, prefix_more}
 use Rattle.press_devices.proofs.writing.write_pieces.Goals as goal
-
-pub loop-piece-init : goal.loop-piece-init
-loop-piece-init g c = (([], refl, Appends-nil _), λ was. was)
 
 pub returns-in_err-write_whole-clause-written : goal.returns-in_err-write_whole-clause-written
 returns-in_err-write_whole-clause-written g c =
