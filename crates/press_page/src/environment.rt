@@ -58,7 +58,7 @@ impl PageEnv {
     ghost use Rattle.press_page.specs.Place.{cursor_dot};
     ghost use Rattle.press_page.specs.Environment.{reset_environment, logical_page_of, set_unit_of_measure, set_line_termination};
     ghost use Rattle.press_page.specs.Environment.{set_horizontal_motion, set_vertical_motion, set_line_spacing, with_top};
-    ghost use Rattle.press_page.specs.Environment.{asked_top, set_top_margin, set_text_length, set_perforation_skip};
+    ghost use Rattle.press_page.specs.Environment.{asked_top, set_top_margin, asked_text_length, set_text_length, set_perforation_skip};
     ghost use Rattle.press_page.specs.Environment.{skip_moves_top, asked_left, set_left_margin, asked_right, set_right_margin};
     ghost use Rattle.press_page.specs.Environment.{clear_margins, with_default_margins, closes_page, asked_page_size};
     ghost use Rattle.press_page.specs.Environment.{with_page_size, set_page_size, asked_orientation, with_orientation};
@@ -171,14 +171,19 @@ impl PageEnv {
         }
     }
 
-    /// `ESC & l # F`: the text length in lines.
-    pub fn set_text_length(&mut self, value: Value)
-        ensures { self.new ≡ set_text_length value.tenthousandths self.old }
+    /// `ESC & l # F`: the text length in lines; answers whether it has effect.
+    pub fn set_text_length(&mut self, value: Value) -> bool
+        ensures set { self.new ≡ set_text_length value.tenthousandths self.old }
+        ensures effect { result ≡ is_some (asked_text_length value.tenthousandths self.old) }
     {
         let length = self.page_setup.logical_length();
         let line = self.settings.vertical_motion;
-        if let Some(text_length) = text_length_of(value, line, self.margins.top, length) {
-            self.margins.text_length = text_length;
+        match text_length_of(value, line, self.margins.top, length) {
+            Some(text_length) => {
+                self.margins.text_length = text_length;
+                true
+            }
+            None => false,
         }
     }
 

@@ -17,4 +17,7 @@ pub use margins::Margins;
 pub use media::{Binding, DuplexMode, Orientation, PAGE_SIZES, PageSetup, PageSize};
 pub use numbered::Numbered;
 pub use place::{CursorDot, Dot, Extent, FrameLines, placement_is_inverse};
-pub use settings::{LineTermination, MOST_COPIES, Settings};
+pub use settings::{
+    LineTermination, MOST_COPIES, Settings, copies_of, horizontal_motion_of, line_spacing_of,
+    line_termination_of, measure_of, vertical_motion_of,
+};

@@ -50,7 +50,9 @@ pub struct Settings {
 }
 
 /// The unit of measure of so many units per inch, where that is a legal one.
-pub(crate) fn measure_of(number: i64) -> Option<UnitOfMeasure>
+///
+/// Source: PCL 5 Printer Language Technical Reference Manual, Unit of Measure command.
+pub fn measure_of(number: i64) -> Option<UnitOfMeasure>
     ensures { result ≡ measure_of number }
 {
     if number < 0 || number > i64::from(POSITIONS_PER_INCH) {
@@ -70,7 +72,9 @@ fn terminated(feed_after_return: bool, return_before_feed: bool) -> LineTerminat
 }
 
 /// The line termination that `ESC & k # G` names by a number.
-pub(crate) fn line_termination_of(number: i64) -> Option<LineTermination>
+///
+/// Source: PCL 5 Printer Language Technical Reference Manual, Line Termination command.
+pub fn line_termination_of(number: i64) -> Option<LineTermination>
     ensures { result ≡ line_termination_of number }
 {
     match number {
@@ -82,8 +86,10 @@ pub(crate) fn line_termination_of(number: i64) -> Option<LineTermination>
     }
 }
 
-/// The horizontal motion index that a value of 0 to 840 stands for.
-pub(crate) fn horizontal_motion_of(value: Value) -> Option<u16>
+/// The horizontal motion index that a value of 0 to 840 stands for, in 1/7200 inch.
+///
+/// Source: PCL 5 Printer Language Technical Reference Manual, Horizontal Motion Index command.
+pub fn horizontal_motion_of(value: Value) -> Option<u16>
     ensures { result ≡ horizontal_motion_of value.tenthousandths }
 {
     if value.tenthousandths < 0 || value.tenthousandths > 10_000 * GREATEST_HORIZONTAL_MOTION {
@@ -92,8 +98,10 @@ pub(crate) fn horizontal_motion_of(value: Value) -> Option<u16>
     Some(to_pos(value, Unit::horizontal_motion()).0.unsigned_abs() as u16)
 }
 
-/// The vertical motion index that a value of 0 to 336 stands for.
-pub(crate) fn vertical_motion_of(value: Value) -> Option<u16>
+/// The vertical motion index that a value of 0 to 336 stands for, in 1/7200 inch.
+///
+/// Source: PCL 5 Printer Language Technical Reference Manual, Vertical Motion Index command.
+pub fn vertical_motion_of(value: Value) -> Option<u16>
     ensures { result ≡ vertical_motion_of value.tenthousandths }
 {
     if value.tenthousandths < 0 || value.tenthousandths > 10_000 * GREATEST_VERTICAL_MOTION {
@@ -102,8 +110,10 @@ pub(crate) fn vertical_motion_of(value: Value) -> Option<u16>
     Some(to_pos(value, Unit::vertical_motion()).0.unsigned_abs() as u16)
 }
 
-/// The vertical motion index under so many lines to the inch.
-pub(crate) fn line_spacing_of(number: i64) -> Option<u16>
+/// The vertical motion index under so many lines to the inch, in 1/7200 inch.
+///
+/// Source: PCL 5 Printer Language Technical Reference Manual, Line Spacing command.
+pub fn line_spacing_of(number: i64) -> Option<u16>
     ensures { result ≡ line_spacing_of number }
 {
     match number {
@@ -134,8 +144,10 @@ pub(crate) fn skip_change_of(number: i64, held: bool) -> Option<bool>
     }
 }
 
-/// How many copies a number asks for.
-pub(crate) fn copies_of(number: i64) -> Option<u16>
+/// How many copies a number asks for: at least 1, and at most 999.
+///
+/// Source: PCL 5 Printer Language Technical Reference Manual, Number of Copies command.
+pub fn copies_of(number: i64) -> Option<u16>
     ensures { result ≡ copies_of number }
 {
     if number < 1 {
