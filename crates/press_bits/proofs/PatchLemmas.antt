@@ -1,17 +1,12 @@
 -- Patches that are laid over a page.
-use Rattle.std.proofs.Common.{◌+◌, ◌-◌, ◌*◌, ◌≤◌, ◌&&◌, arith, ◌≡◌, ℕ, ◌<◌, Bool, true, false, cond, List, [], ◌∷◌, refl, sym, ap, ◌∙◌}
+use Rattle.std.proofs.Common.{◌-◌, ◌*◌, ◌≤◌, ◌&&◌, arith, ◌≡◌, ℕ, ◌<◌, Bool, true, cond, List, [], ◌∷◌, sym, ◌∙◌}
 use Rattle.std.specs.Prelude.{nat_lt, nat_le}
 use Rattle.std.proofs.lemmas.Bool.Decides.{nat_tests}
-use Rattle.press_bits.specs.Mark.{row_dot}
 use Rattle.press_bits.specs.Page.{Page, HasNoDotOutside, black_at, page_where}
 use Rattle.press_bits.specs.Patches.{DifferIn, Patch, Patched, PatchedBy, RowsOf, is_in, patch_dot, laid_over, all_laid_over}
 use Rattle.press_bits.specs.declared.region.Region.{Region}
 use Rattle.press_bits.proofs.LineLemmas.{row_dot-slice}
 use Rattle.press_bits.proofs.PageLemmas.{page_where_alike, page_where_itself}
-
-chosen_dot : (t patch before after : Bool) → (t ≡ true → after ≡ patch) → (t ≡ false → after ≡ before) → cond t patch before ≡ after
-chosen_dot true patch before after inside outside = sym (inside refl)
-chosen_dot false patch before after inside outside = sym (outside refl)
 
 -- a page with its patch laid over it is the page after
 pub laid_over_is : (before after : Page) (patch : Patch) → Patched before patch after → laid_over before patch ≡ after
@@ -20,14 +15,12 @@ laid_over_is before after patch patched =
     let rule : ℕ → ℕ → Bool = λ x y. cond (is_in patch.region x y) (patch_dot patch x y) (black_at before x y) in
     (λ i. page_where (sym patched.differ.width i) (sym patched.differ.height i) rule)
     ∙ page_where_alike after.width after.height rule (black_at after)
-    (λ x y wide high. chosen_dot (is_in patch.region x y) (patch_dot patch x y) (black_at before x y) (black_at after x y) (patched.inside x y wide high) (patched.differ.outside x y))
+    (λ x y wide high. grind (arith, patched.inside x y wide high, patched.differ.outside x y))
     ∙ page_where_itself after patched.whole
 
 pub patches_are_the_page : (before after : Page) (patches : List Patch) → PatchedBy before patches after → all_laid_over before patches ≡ after
 patches_are_the_page before after [] same = same
-patches_are_the_page before after (patch ∷ patches) steps =
-    ap (λ page. all_laid_over page patches) (laid_over_is before steps.0 patch steps.1)
-    ∙ patches_are_the_page steps.0 after patches steps.2
+patches_are_the_page before after (patch ∷ patches) steps = grind (arith, laid_over_is before steps.0 patch steps.1, patches_are_the_page steps.0 after patches steps.2)
 
 inside_area : (top bottom left right x y : ℕ) → ((nat_le top y && nat_lt y bottom) && (nat_le (8 * left) x && nat_lt x (8 * right))) ≡ true →
     (top ≤ y) × (y < bottom) × (8 * left ≤ x) × (x < 8 * right)
@@ -41,11 +34,6 @@ rows_are_the_patch before after region rows differ rows_of none = record {
   inside = λ x y wide high test.
       let within = inside_area region.top region.bottom region.left region.right x y test in
       let found = rows_of.each y within.0 within.1 in
-      let place : x ≡ 8 * region.left + (x - 8 * region.left) = omega (arith, within.2) in
-      let short : x - 8 * region.left < 8 * (region.right - region.left) = omega (arith, within.2, within.3) in
-      sym (found.1.dots x wide)
-      ∙ ap (row_dot found.0) place
-      ∙ sym (row_dot-slice found.0 region.left (region.right - region.left) (x - 8 * region.left) short)
-      ∙ ap (λ (row : List ℕ). row_dot row (x - 8 * region.left)) (sym found.2);
+      grind (arith, found.1.dots x wide, row_dot-slice found.0 region.left (region.right - region.left) (x - 8 * region.left), found.2);
   whole = none;
 }

@@ -1,12 +1,11 @@
 -- Patterns that are repeated, in words.
-use Rattle.std.proofs.Common.{◌≡◌, ℕ, ◌+◌, ◌-◌, ◌*◌, ◌/◌, ◌%◌, ◌^◌, ◌<◌, zero, suc, Bool, true, false, ◌||◌, refl, sym, ap, ◌∙◌, inl, inr, w64, arith}
+use Rattle.std.proofs.Common.{◌≡◌, ℕ, ◌+◌, ◌-◌, ◌*◌, ◌/◌, ◌%◌, ◌^◌, ◌<◌, zero, suc, sym, ap, ◌∙◌, w64, arith}
 use Rattle.std.specs.Int.{rotate_left}
-use Rattle.std.proofs.Math.Nat.{mod-eq_of_lt, add-mod_left, add-mul-mod_self_left, div-add-mod}
-use Rattle.std.proofs.lemmas.Bool.{cases_lt, cases_eq}
+use Rattle.std.proofs.Math.Nat.{mod-eq_of_lt, add-mod_left, add-mul-mod_self_left}
+use Rattle.std.proofs.lemmas.Bool.Decides.{nat_tests}
 use Rattle.press_bits.specs.Mark.{IsBlack, Row, row_dot, repeated}
 use Rattle.press_bits.specs.Words.{word_dot}
-use Rattle.press_bits.proofs.MixLemmas.{or_false}
-use Rattle.press_bits.proofs.WordLemmas.{word_dot-or, word_dot-ones, shifted_right, white_before, shifted_left, white_behind}
+use Rattle.press_bits.proofs.WordLemmas.{word_dot-or, word_dot-ones, word_dot-shr, word_dot-shl}
 
 pub repeated-first : (pattern : Row) (p : ℕ) → p < pattern.dots → row_dot pattern.bits p ≡ repeated pattern p
 unfolding repeated
@@ -22,20 +21,16 @@ IsPeriod-dots pattern n = ap (row_dot pattern.bits) (add-mod_left pattern.dots n
 
 pub IsPeriod-64 : (pattern : Row) → 64 % pattern.dots ≡ 0 → IsPeriod pattern 64
 unfolding repeated
-IsPeriod-64 pattern divides n =
-    let is : 64 + n ≡ n + pattern.dots * (64 / pattern.dots) = omega (arith, divides, div-add-mod 64 pattern.dots) in
-    ap (row_dot pattern.bits) (ap (λ k. k % pattern.dots) is ∙ add-mul-mod_self_left n pattern.dots (64 / pattern.dots))
+IsPeriod-64 pattern divides n = grind (arith, add-mul-mod_self_left n pattern.dots (64 / pattern.dots))
 
 times_64 : (pattern : Row) (k : ℕ) → IsPeriod pattern 64 → IsPeriod pattern (64 * k)
 times_64 pattern zero once n = ap (repeated pattern) (omega arith)
-times_64 pattern (suc k) once n = ap (repeated pattern) (omega arith) ∙ once (64 * k + n) ∙ times_64 pattern k once n
+times_64 pattern (suc k) once n = grind (arith, once (64 * k + n), times_64 pattern k once n)
 
 -- the dots from a place on are those from what is left of it behind whole patterns
 pub repeated-phase : (pattern : Row) (q j : ℕ) → repeated pattern (q % pattern.dots + j) ≡ repeated pattern (q + j)
 unfolding repeated
-repeated-phase pattern q j =
-    let is : q + j ≡ (q % pattern.dots + j) + pattern.dots * (q / pattern.dots) = omega (arith, div-add-mod q pattern.dots) in
-    ap (row_dot pattern.bits) (sym (ap (λ k. k % pattern.dots) is ∙ add-mul-mod_self_left (q % pattern.dots + j) pattern.dots (q / pattern.dots)))
+repeated-phase pattern q j = grind (arith, add-mul-mod_self_left (q % pattern.dots + j) pattern.dots (q / pattern.dots))
 
 -- dots behind a period are those of the front
 pub behind : (pattern : Row) (word m j p : ℕ) → IsPeriod pattern m → m + j ≡ p → word_dot word j ≡ repeated pattern j → word_dot word j ≡ repeated pattern p
@@ -44,48 +39,20 @@ behind pattern word m j p period place is = is ∙ sym (period j) ∙ ap (repeat
 -- a word that is turned
 turned : (n s j : ℕ) → n < 2 ^ 64 → s < 64 → j < 64 → word_dot (rotate_left w64 n s) j ≡ word_dot n ((s + j) % 64)
 turned n s j small low within =
-    word_dot-or (n * 2 ^ (s % 64) % 2 ^ 64) (n / 2 ^ ((64 - s % 64) % 64)) j
-    ∙ elim (cases_lt (s + j) 64) [
-      | inl before ↦
-          let same : s % 64 + j ≡ (s + j) % 64 = omega arith in
-          elim (cases_eq s 0) [
-            | inl none ↦
-                let still : (64 - s % 64) % 64 ≡ 0 = omega (arith, none) in
-                let here : j - (64 - s % 64) % 64 ≡ (s + j) % 64 = omega (arith, none) in
-                (λ i. shifted_left n (s % 64) j (omega arith) i || shifted_right n ((64 - s % 64) % 64) j (omega (arith, still)) within i)
-                ∙ (λ i. word_dot n (same i) || word_dot n (here i))
-                ∙ itself (word_dot n ((s + j) % 64))
-            | inr some ↦
-                (λ i. shifted_left n (s % 64) j (omega arith) i || white_before n ((64 - s % 64) % 64) j small (omega arith) within i)
-                ∙ or_false (word_dot n (s % 64 + j))
-                ∙ ap (word_dot n) same
-          ]
-      | inr past ↦
-          (λ i. white_behind n (s % 64) j within (omega arith) i || shifted_right n ((64 - s % 64) % 64) j (omega arith) within i)
-          ∙ ap (word_dot n) (omega arith)
-    ]
-  where
-    itself : (b : Bool) → (b || b) ≡ b
-    itself true = refl
-    itself false = refl
+    grind (
+      arith,
+      nat_tests,
+      word_dot-or (n * 2 ^ (s % 64) % 2 ^ 64) (n / 2 ^ ((64 - s % 64) % 64)) j,
+      word_dot-shl n (s % 64) j within,
+      word_dot-shr n ((64 - s % 64) % 64) j small within,
+    )
 
 pub turned_prefix : (pattern : Row) (prefix q j : ℕ) → prefix < 2 ^ 64 → 64 % pattern.dots ≡ 0 → ((i : ℕ) → i < 64 → word_dot prefix i ≡ repeated pattern i) → j < 64 →
     word_dot (rotate_left w64 prefix (q % 64)) j ≡ repeated pattern (q + j)
 turned_prefix pattern prefix q j small divides dots within =
-    let whole : (q % 64 + j) % 64 ≡ (q + j) % 64 = omega arith in
-    let place : 64 * ((q + j) / 64) + (q + j) % 64 ≡ q + j = omega arith in
-    turned prefix (q % 64) j small (omega arith) within
-    ∙ ap (word_dot prefix) whole
-    ∙ dots ((q + j) % 64) (omega arith)
-    ∙ sym (times_64 pattern ((q + j) / 64) (IsPeriod-64 pattern divides) ((q + j) % 64))
-    ∙ ap (repeated pattern) place
+    grind (arith, turned prefix (q % 64) j small (omega arith) within, dots ((q + j) % 64) (omega arith), times_64 pattern ((q + j) / 64) (IsPeriod-64 pattern divides) ((q + j) % 64))
 
 -- a pattern whose width divides sixty-four is black where its first sixty-four dots are
 pub black_prefix : (pattern : Row) (prefix : ℕ) → prefix ≡ 2 ^ 64 - 1 → 64 % pattern.dots ≡ 0 → ((i : ℕ) → i < 64 → word_dot prefix i ≡ repeated pattern i) → IsBlack pattern
 black_prefix pattern prefix full divides dots = λ i.
-    let place : 64 * (i / 64) + i % 64 ≡ i = omega arith in
-    ap (repeated pattern) (sym place)
-    ∙ times_64 pattern (i / 64) (IsPeriod-64 pattern divides) (i % 64)
-    ∙ sym (dots (i % 64) (omega arith))
-    ∙ ap (λ n. word_dot n (i % 64)) full
-    ∙ word_dot-ones (i % 64)
+    grind (arith, times_64 pattern (i / 64) (IsPeriod-64 pattern divides) (i % 64), dots (i % 64) (omega arith), full, word_dot-ones (i % 64))

@@ -3,9 +3,7 @@ use Rattle.press_bits.proofs.WhiteLemmas.{unmarked_bytes, whitened_bytes}
 use Rattle.press_bits.proofs.band.whiten.Goals as goal
 
 pub returns-then-marked : goal.returns-then-marked
-returns-then-marked c =
-    let small : (k : ℕ) → get_or c.args.bytes.now k 0 < 256 = λ k. search rules in
-    whitened_bytes c.args.marked c.args.bytes.now c.fill.new.self c.requires c.if-marked.true small (c.fill.ensures.after (λ y e. e))
+returns-then-marked c = grind (arith, whitened_bytes)
 
 pub returns-else-marked : goal.returns-else-marked
 returns-else-marked c =

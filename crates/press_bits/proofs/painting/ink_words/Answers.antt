@@ -1,4 +1,4 @@
-use Rattle.std.proofs.Common.{◌-◌, ap, ◌∙◌, arith}
+use Rattle.std.proofs.Common.{ap, ◌∙◌, arith}
 use Rattle.press_bits.specs.Mark.{row, repeated}
 use Rattle.press_bits.proofs.painting.ink_words.Goals as goal
 

@@ -1,4 +1,4 @@
-use Rattle.std.proofs.Common.{◌≡◌, ℕ, true, ◌+◌, ◌-◌, ◌*◌, ◌/◌, ap, subst, sym, ◌∙◌, length, take, drop, arith, rules}
+use Rattle.std.proofs.Common.{◌≡◌, ℕ, true, ◌+◌, ◌-◌, ◌*◌, ◌/◌, ap, subst, length, take, drop, arith, rules}
 use Rattle.std.proofs.lemmas.List.{length-take, length-drop}
 use Rattle.press_bits.specs.Mark.{row, row_dot, repeated}
 use Rattle.press_bits.specs.Ranges.{IsPaintedFrom}
@@ -12,19 +12,13 @@ returns-clause-painted c =
     let stop : 8 * (c.args.first + 8 * c.args.words) ≡ 8 * c.args.first + 64 * c.args.words = omega arith in
     let laid : c.args.stroke.now.laid ≡ true = search rules in
     let count : c.args.first + 8 * c.args.words - c.args.first ≡ dot / 8 + 8 * c.args.words - dot / 8 = omega arith in
-    let bytes : c.copy_from_slice.new.self ≡ take (c.args.first + 8 * c.args.words - c.args.first) (drop (dot / 8) c.args.stroke.now.source.bits.now) =
-    c.copy_from_slice.ensures.after ∙ ap (λ n. take n (drop (dot / 8) c.args.stroke.now.source.bits.now)) (sym count) in
+    let bytes : c.copy_from_slice.new.self ≡ take (c.args.first + 8 * c.args.words - c.args.first) (drop (dot / 8) c.args.stroke.now.source.bits.now) = grind arith in
     let long : length c.copy_from_slice.new.self ≡ c.args.first + 8 * c.args.words - c.args.first =
-    ap length bytes
-    ∙ omega (
+    grind (
       arith,
-      whole,
+      bytes,
       length-take (c.args.first + 8 * c.args.words - c.args.first) (drop (dot / 8) c.args.stroke.now.source.bits.now),
       length-drop (dot / 8) c.args.stroke.now.source.bits.now,
-      c.args.stroke.now.source.enough,
-      c.requires.enough,
-      c.requires.left,
-      c.requires.begun,
     ) in
     subst (IsPaintedFrom c.args.rows.now _ c.args.line c.args.stroke.now (8 * c.args.first)) stop
     (laid_bytes c.args.rows.now c.copy_from_slice.new.self c.args.stroke.now.source.bits.now c.args.stroke.now.mode

@@ -1,16 +1,11 @@
-use Rattle.std.proofs.Common.{◌≡◌, ℕ, ◌+◌, ◌-◌, ◌*◌, ◌/◌, ◌^◌, ap, ◌∙◌, arith}
+use Rattle.std.proofs.Common.{◌≡◌, ℕ, ◌+◌, ◌-◌, ◌*◌, ◌/◌, ◌^◌, arith}
 use Rattle.press_bits.specs.Mark.{row, row_dot, repeated}
-use Rattle.press_bits.specs.Words.{word_dot}
-use Rattle.press_bits.specs.DotRows.{mixed_dot}
 use Rattle.press_bits.proofs.AlongLemmas.{painted_word}
 use Rattle.press_bits.proofs.painting.mix_word.Goals as goal
 
 -- a number that is shifted by nothing
 unshifted : (n place : ℕ) → n ≡ n / 2 ^ (place - place)
-unshifted n place =
-    let none : 0 ≡ place - place = omega arith in
-    let one : n ≡ n / 1 = omega arith in
-    one ∙ ap (λ k. n / 2 ^ k) none
+unshifted n place = grind arith
 
 pub returns : goal.returns
 returns c =
@@ -19,9 +14,6 @@ returns c =
     (λ p. repeated (row c.args.stroke.now.through.pattern) (p - 8 * c.args.line))
     c.args.index (8 * c.args.index) (8 * c.args.index + 64) c.args.dots c.args.through c.mask_word-mask.result c.whole_word_at-before.result c.mixed_word-after.result
     (omega arith) (omega arith)
-    (λ j within _. c.requires.dots j within ∙ ap (row_dot c.args.stroke.now.source.bits.now) (omega arith))
-    (λ j within. c.requires.through j within ∙ ap (repeated (row c.args.stroke.now.through.pattern)) (omega arith))
-    c.mask_word-mask.ensures c.whole_word_at-before.ensures.dots
-    (λ j within. c.mixed_word-after.ensures j within
-    ∙ (λ i. mixed_dot (word_dot c.mask_word-mask.result j) (c.requires.mode i) (word_dot (unshifted c.args.dots (8 * c.args.index) i) j) (word_dot (unshifted c.args.through (8 * c.args.index) i) j) (word_dot c.whole_word_at-before.result j)))
+    (λ j within _. grind (arith, c.requires.dots j)) (λ j within. grind (arith, c.requires.through j))
+    c.mask_word-mask.ensures c.whole_word_at-before.ensures.dots (λ j within. grind (arith, c.mixed_word-after.ensures j, unshifted))
     c.put_word.ensures.here c.put_word.ensures.elsewhere

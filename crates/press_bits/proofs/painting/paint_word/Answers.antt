@@ -1,4 +1,4 @@
-use Rattle.std.proofs.Common.{◌+◌, ◌-◌, ◌*◌, ap, ◌∙◌, arith}
+use Rattle.std.proofs.Common.{◌+◌, ◌-◌, ◌*◌, arith}
 use Rattle.press_bits.specs.Mark.{row, row_dot, repeated}
 use Rattle.press_bits.proofs.AlongLemmas.{painted_word}
 use Rattle.press_bits.proofs.painting.paint_word.Goals as goal
@@ -10,6 +10,5 @@ returns c =
     (λ p. repeated (row c.args.stroke.now.through.pattern) (p - 8 * c.args.line))
     c.args.part.index c.args.part.from c.args.part.to c.source_word-dots.result c.word-through.result c.mask_word-mask.result c.whole_word_at-before.result c.mixed_word-after.result
     c.args.part.begun c.args.part.within
-    (λ j within left. c.source_word-dots.ensures j within (omega (arith, left, c.requires.left)) ∙ ap (row_dot c.args.stroke.now.source.bits.now) (omega arith))
-    (λ j within. c.word-through.ensures j within ∙ ap (repeated (row c.args.stroke.now.through.pattern)) (omega arith))
+    (λ j within left. grind (arith, c.source_word-dots.ensures j)) (λ j within. grind (arith, c.word-through.ensures j))
     c.mask_word-mask.ensures c.whole_word_at-before.ensures.dots c.mixed_word-after.ensures c.put_word.ensures.here c.put_word.ensures.elsewhere

@@ -1,4 +1,4 @@
-use Rattle.std.proofs.Common.{◌≡◌, ◌*◌, ◌-◌, ◌≤◌, min, true, false, length, refl, sym, ap, ◌∙◌, subst, arith, rules}
+use Rattle.std.proofs.Common.{◌≡◌, ◌*◌, ◌-◌, ◌≤◌, min, false, refl, sym, ap, ◌∙◌, subst, arith, rules}
 use Rattle.std.proofs.Math.Nat.{mul-le-mul_right}
 use Rattle.std.proofs.lemmas.List.{take-replicate}
 use Rattle.press_bits.specs.Lines.{ArePageLines}
@@ -7,21 +7,13 @@ use Rattle.press_bits.proofs.BandLemmas.{height-page_of_bands, there_long, band_
 use Rattle.press_bits.proofs.bands.Bands.band.Goals as goal
 
 pub overflow_mul-index : goal.overflow_mul-index
-overflow_mul-index c =
-    let high : c.self.inside.height ≡ c.args.self.now.page.height = sym (height-page_of_bands _ _ _) ∙ ap (λ (s : BandedPage). s.page.height) c.self.view_is in
-    record { fits = omega (arith, high, c.requires, c.self.invariant.most_height) }
+overflow_mul-index c = grind (arith, height-page_of_bands)
 
 pub overflow_sub-self-inside : goal.overflow_sub-self-inside
-overflow_sub-self-inside c =
-    let high : c.self.inside.height ≡ c.args.self.now.page.height = sym (height-page_of_bands _ _ _) ∙ ap (λ (s : BandedPage). s.page.height) c.self.view_is in
-    let inside : 64 * c.args.index ≤ c.self.inside.height = omega (arith, high, c.requires) in
-    search (rules, inside)
+overflow_sub-self-inside c = grind (arith, height-page_of_bands)
 
 pub prefix-requires : goal.prefix-requires
-prefix-requires c =
-    let few : c.min-lines.result ≤ 64 = omega (arith, c.min-lines.ensures) in
-    let small : c.min-lines.result * c.line_bytes.result ≤ 131072 = omega (arith, mul-le-mul_right c.line_bytes.result few, c.line_bytes.ensures, c.self.invariant.most_width) in
-    search (rules, small)
+prefix-requires c = grind (arith, mul-le-mul_right {m = c.min-lines.result} {n = 64} c.line_bytes.result (omega arith))
 
 pub returns-then-not-has_band : goal.returns-then-not-has_band
 returns-then-not-has_band c =
@@ -42,18 +34,12 @@ returns-then-not-has_band c =
 
 pub returns : goal.returns
 returns c =
-    let high : c.self.inside.height ≡ c.args.self.now.page.height = sym (height-page_of_bands _ _ _) ∙ ap (λ (s : BandedPage). s.page.height) c.self.view_is in
-    let some : is_there (band_at c.self.inside.bands.items c.args.index) ≡ true = sym c.has_band.ensures ∙ search rules in
-    let long : length c.bytes_of.result.now ≡ 64 * c.line_bytes.result =
-    ap length c.bytes_of.ensures
-    ∙ there_long c.self.inside.width c.self.inside.height c.self.inside.bands.items c.args.index c.self.invariant some
-    ∙ ap (λ n. 64 * n) (sym c.line_bytes.ensures) in
     let lines : c.min-lines.result ≡ min 64 (c.self.inside.height - 64 * c.args.index) = search rules in
     subst (λ (s : BandedPage). ArePageLines s.page (64 * c.args.index) (min 64 (c.args.self.now.page.height - 64 * c.args.index)) c.prefix-2.result.now) c.self.view_is
     (subst (λ n.
     ArePageLines (page_of_bands c.self.inside.width c.self.inside.height c.self.inside.bands.items) (64 * c.args.index) n
     c.prefix-2.result.now)
-    (lines ∙ ap (λ h. min 64 (h - 64 * c.args.index)) high)
+    (grind (arith, height-page_of_bands))
     (band_there c.self.inside.width c.self.inside.height c.args.index c.line_bytes.result c.min-lines.result c.self.inside.bands.items
-    c.bytes_of.result.now c.prefix-2.result.now c.line_bytes.ensures c.bytes_of.ensures long c.self.invariant lines
+    c.bytes_of.result.now c.prefix-2.result.now c.line_bytes.ensures c.bytes_of.ensures (grind (arith, there_long)) c.self.invariant lines
     c.prefix-2.ensures))

@@ -1,6 +1,5 @@
-use Rattle.std.proofs.Common.{◌≡◌, ◌∙◌, ◌<◌, ℤ, pos, ap, to_z, of_z, w64, replicate, arith}
+use Rattle.std.proofs.Common.{◌≡◌, ◌∙◌, ◌<◌, ℤ, pos, ap, to_z, of_z, w64, arith}
 use Rattle.std.proofs.lemmas.Int.{to_z_pos}
-use Rattle.press_bits.specs.Mark.{painted, row, row_mark}
 use Rattle.press_bits.proofs.MarkLemmas.{IsAllBlack-replicate}
 use Rattle.press_bits.proofs.bands.Bands.ink.Goals as goal
 
@@ -13,5 +12,4 @@ returns-clause-painted c =
     let y_small : c.args.y < 9223372036854775808 = omega arith in
     let column : to_z w64 (of_z w64 c.from.result) ≡ pos c.args.x = ap (λ (z : ℤ). to_z w64 (of_z w64 z)) c.from.ensures ∙ to_z_pos w64 c.args.x x_small in
     let line : to_z w64 (of_z w64 c.from-2.result) ≡ pos c.args.y = ap (λ (z : ℤ). to_z w64 (of_z w64 z)) c.from-2.ensures ∙ to_z_pos w64 c.args.y y_small in
-    c.paint_dots.ensures.painted
-    ∙ (λ i. painted c.args.self.now.page (row_mark (column i) (line i) (record { bits = replicate 2048 255; dots = c.args.dots }) (row c.args.pattern) c.args.mode))
+    cc (c.paint_dots.ensures.painted, column, line)

@@ -1,12 +1,8 @@
-use Rattle.std.proofs.Common.{◌+◌, ◌*◌, ◌/◌, ◌%◌, ◌≡◌, ◌∙◌, ap, arith}
-use Rattle.press_bits.specs.Mark.{byte_dot}
+use Rattle.std.proofs.Common.{◌+◌, ◌*◌, ◌/◌, ◌≡◌, arith}
 use Rattle.press_bits.proofs.ByteLemmas.{row_dot-of_byte}
 use Rattle.press_bits.proofs.dot_row.DotRow.eight_of.Goals as goal
 
 pub returns : goal.returns
 returns c = λ j low.
-    let place : j ≡ (8 * c.args.byte + j) % 8 = omega (arith, low) in
     let here : (8 * c.args.byte + j) / 8 ≡ c.args.byte = omega (arith, low) in
-    ap (byte_dot c.byte_at.result) place
-    ∙ ap (λ b. byte_dot b ((8 * c.args.byte + j) % 8)) c.byte_at.ensures
-    ∙ row_dot-of_byte c.args.self.bits.now c.args.byte (8 * c.args.byte + j) here
+    grind (arith, c.byte_at.ensures, row_dot-of_byte c.args.self.bits.now c.args.byte (8 * c.args.byte + j) here)

@@ -1,4 +1,4 @@
-use Rattle.std.proofs.Common.{◌≡◌, ℕ, ◌+◌, ◌-◌, ◌*◌, ◌/◌, ◌<◌, false, List, length, inl, inr, sym, ap, ◌∙◌, arith, rules}
+use Rattle.std.proofs.Common.{◌≡◌, ℕ, ◌+◌, ◌-◌, ◌*◌, ◌/◌, ◌<◌, false, List, length, inl, inr, arith, rules}
 use Rattle.std.proofs.lemmas.Bool.{cases_lt}
 use Rattle.press_bits.specs.Mark.{row_dot}
 use Rattle.press_bits.specs.Words.{word_dot}
@@ -9,13 +9,7 @@ use Rattle.press_bits.proofs.dot_row.DotRow.is_white.Goals as goal
 -- dots before a white word, and those of it
 white_on : (bits : List ℕ) (k word : ℕ) → ((i : ℕ) → i < 8 * k → row_dot bits i ≡ false) → ((j : ℕ) → j < 64 → word_dot word j ≡ row_dot bits (8 * k + j)) → word ≡ 0 →
     (i : ℕ) → i < 8 * (k + 8) → row_dot bits i ≡ false
-white_on bits k word white dots none = λ i before.
-    elim (cases_lt i (8 * k)) [
-      | inl below ↦ white i below
-      | inr here ↦
-          let place : i ≡ 8 * k + (i - 8 * k) = omega arith in
-          ap (row_dot bits) place ∙ sym (dots (i - 8 * k) (omega arith)) ∙ ap (λ n. word_dot n (i - 8 * k)) none ∙ word_dot-zeros (i - 8 * k)
-    ]
+white_on bits k word white dots none = λ i before. grind (arith, white i, dots (i - 8 * k), word_dot-zeros (i - 8 * k))
 
 pub loop-word-preserved : goal.loop-word-preserved
 loop-word-preserved c = λ i before.

@@ -1,4 +1,4 @@
-use Rattle.std.proofs.Common.{◌-◌, ◌∙◌}
+use Rattle.std.proofs.Common.{◌∙◌}
 use Rattle.press_bits.specs.Mark.{row}
 use Rattle.press_bits.proofs.RepeatLemmas.{repeated-first, IsPeriod-dots}
 use Rattle.press_bits.proofs.repeats.Repeats.of.Goals as goal
