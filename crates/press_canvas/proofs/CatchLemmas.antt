@@ -1,11 +1,11 @@
 -- Pages of frames that differ in a rectangle of their dots.
-use Rattle.std.proofs.Common.{◌≡◌, ◌≢◌, ◌<◌, ◌≤◌, ◌⊎◌, ◌&&◌, ℕ, Bool, true, false, refl, sym, ap, subst, ◌∙◌, arith}
+use Rattle.std.proofs.Common.{◌≡◌, ◌≢◌, ◌<◌, ◌≤◌, ◌⊎◌, ◌&&◌, ℕ, Bool, false, refl, sym, ap, subst, ◌∙◌, arith}
 use Rattle.std.specs.Prelude.{nat_lt}
 use Rattle.std.proofs.lemmas.Bool.Decides.{nat_tests}
 use Rattle.press_bits.specs.Page.{Page, black_at, HasNoDotOutside}
 use Rattle.press_bits.specs.Patches.{AgreeBeside, ChangedIn, LiesOn, is_in}
 use Rattle.press_bits.specs.declared.region.Region.{Region}
-use Rattle.press_bits.proofs.PageLemmas.{black_at-page_where_all, false_unless}
+use Rattle.press_bits.proofs.PageLemmas.{black_at-page_where_all}
 use Rattle.press_page.specs.PageSetup.{turned}
 use Rattle.press_page.specs.Place.{placed_dot}
 use Rattle.press_page.specs.declared.media.Orientation.{Orientation}
@@ -19,9 +19,7 @@ use Rattle.press_canvas.proofs.TurnedLemmas.{black_at-turned_page, height-turned
 
 -- the page of a frame has the dots of the frame, turned
 pub extent_of_page : (o : Orientation) (frame : Page) → extent (page_of_frame o frame) ≡ turned o (extent frame)
-extent_of_page o frame =
-    let size : Extent = turned o (extent frame) in
-    λ i. record { width = width-turned_page o size.width size.height frame i; height = height-turned_page o size.width size.height frame i }
+extent_of_page o frame = grind (arith, width-turned_page, height-turned_page)
 
 -- and the frame those of its page
 pub extent_of_frame : (o : Orientation) (frame : Page) (page : Extent) → page ≡ extent (page_of_frame o frame) → turned o page ≡ extent frame
@@ -30,14 +28,6 @@ extent_of_frame o frame page is = ap (turned o) (is ∙ extent_of_page o frame) 
 -- frames that lie alike, of pages of one size, have one size
 same_extent : (o : Orientation) (before after : Page) → extent (page_of_frame o after) ≡ extent (page_of_frame o before) → extent after ≡ extent before
 same_extent o before after same = sym (extent_of_frame o after (extent (page_of_frame o before)) (sym same)) ∙ extent_of_frame o before (extent (page_of_frame o before)) refl
-
-alike : (s t a b : Bool) → (s ≡ true → t ≡ true → a ≡ b) → (s && (t && a)) ≡ (s && (t && b))
-alike false t a b same = refl
-alike true false a b same = refl
-alike true true a b same = same refl refl
-
-under : (x w : ℕ) → nat_lt x w ≡ true → x < w
-under x w test = grind (arith, nat_tests)
 
 -- a frame is its page, laid as the frame lies
 frame_laid : (o : Orientation) (frame : Page) → HasNoDotOutside frame → page_of_frame (opposite o) (page_of_frame o frame) ≡ frame
@@ -68,7 +58,7 @@ pages_changed o before after dots there region same other none_before none_after
     size frame = turned o (extent frame)
 
     sizes : extent (page_of_frame o after) ≡ extent (page_of_frame o before)
-    sizes = extent_of_page o after ∙ ap (turned o) same ∙ sym (extent_of_page o before)
+    sizes = grind (arith, extent_of_page o after, same, extent_of_page o before)
 
     at : (e : Extent) → Page → (x y : ℕ) → Bool
     at e frame x y = nat_lt x e.width && (nat_lt y e.height && turned_dot o e.width e.height frame x y)
@@ -78,23 +68,14 @@ pages_changed o before after dots there region same other none_before none_after
 
     dot : (x y : ℕ) → is_in region x y ≡ false → at (size after) after x y ≡ at (size before) before x y
     dot x y apart =
-        (λ i. at (ap (turned o) same i) after x y)
-        ∙ alike (nat_lt x (size before).width) (nat_lt y (size before).height) _ _
-        (λ left above.
-        let moved = subst (λ (e : Extent). x < e.width → y < e.height → (let d = placed_dot o e.width e.height x y in IsBeside dots d.0 d.1)) wide
-        (λ within level. beside x y within level (out x y apart)) in
         let d = placed_dot o (size before).width (size before).height x y in
-        agree d.0 d.1 (moved (under x (size before).width left) (under y (size before).height above)))
+        grind (arith, nat_tests, wide, same, beside x y, out x y apart, agree d.0 d.1)
 
 -- ---- dots of the page of a frame
 
 pub dot_of_page : (o : Orientation) (frame : Page) (page : Extent) (x y : ℕ) → page ≡ extent (page_of_frame o frame) → x < page.width → y < page.height
     → black_at (page_of_frame o frame) x y ≡ (let dot = placed_dot o page.width page.height x y in black_at frame dot.0 dot.1)
-dot_of_page o frame page x y is wide high =
-    let sized : page ≡ turned o (extent frame) = is ∙ extent_of_page o frame in
-    let size : Extent = turned o (extent frame) in
-    black_at-turned_page o size.width size.height frame x y (subst (λ (e : Extent). x < e.width) sized wide) (subst (λ (e : Extent). y < e.height) sized high)
-    ∙ (λ i. let e = sym sized i in let dot = placed_dot o e.width e.height x y in black_at frame dot.0 dot.1)
+dot_of_page o frame page x y is wide high = grind (arith, extent_of_page, black_at-turned_page)
 
 -- frames that lie so agree beside lines where their pages do
 pub frames_beside : (o : Orientation) (before after : Page) (first end : ℕ) → extent after ≡ extent before
@@ -112,9 +93,7 @@ frames_beside o before after first end same beside x y wide high apart =
     (λ i. placed_dot o (size i).width (size i).height there.0 there.1) ∙ back.2 in
     let dot : (frame : Page) → extent (page_of_frame o before) ≡ extent (page_of_frame o frame) → black_at (page_of_frame o frame) there.0 there.1 ≡ black_at frame x y
     = λ frame is. dot_of_page o frame (extent (page_of_frame o before)) there.0 there.1 is within above ∙ ap (λ (d : ℕ × ℕ). black_at frame d.0 d.1) at in
-    sym (dot after sizes)
-    ∙ beside there.0 there.1 within above (subst (λ (d : ℕ × ℕ). (d.1 < first) ⊎ (end ≤ d.1)) (sym at) apart)
-    ∙ dot before refl
+    grind (arith, dot after sizes, beside there.0 there.1 within above (subst (λ (d : ℕ × ℕ). (d.1 < first) ⊎ (end ≤ d.1)) (sym at) apart), dot before refl)
 
 -- frames of pages of one size have one size, as they lie alike
 pub laid_extent : (o p : Orientation) (before after : Page) (page : Page) → page_of_frame p before ≡ page → p ≡ o → extent (page_of_frame o after) ≡ extent page → extent after ≡ extent before
@@ -124,6 +103,4 @@ pub white_outside : (o : Orientation) (frame : Page) (page : Extent) (x y : ℕ)
     → false ≡ black_at (page_of_frame o frame) x y
 white_outside o frame page x y is out =
     let size : Extent = turned o (extent frame) in
-    let inside = (turned_page-HasNoDotOutside o size.width size.height frame).inside x y in
-    sym (false_unless (black_at (page_of_frame o frame) x y) _ inside
-    (λ within. out (subst (λ w. x < w) (ap (λ (e : Extent). e.width) (sym is)) within.0) (subst (λ h. y < h) (ap (λ (e : Extent). e.height) (sym is)) within.1)))
+    grind (arith, is, (turned_page-HasNoDotOutside o size.width size.height frame).inside x y, width-turned_page, height-turned_page)

@@ -1,10 +1,9 @@
 -- Eight dots of a page that lies in landscape.
-use Rattle.std.proofs.Common.{◌≡◌, ℕ, ◌+◌, ◌-◌, ◌*◌, ◌<◌, inl, inr, sym, ap, ◌∙◌, arith}
+use Rattle.std.proofs.Common.{◌≡◌, ℕ, ◌+◌, ◌-◌, ◌*◌, ◌<◌, inl, inr, sym, ◌∙◌, arith}
 use Rattle.std.proofs.lemmas.Bool.{cases_lt}
 use Rattle.press_bits.specs.Lines.{eight_from}
 use Rattle.press_bits.specs.Page.{Page, black_at, HasNoDotOutside}
 use Rattle.press_bits.proofs.ColumnLemmas.{eight_same}
-use Rattle.press_bits.proofs.PageLemmas.{false_unless}
 use Rattle.press_page.specs.PageSetup.{turned}
 use Rattle.press_page.specs.declared.media.Orientation.TheVariants.{Landscape}
 use Rattle.press_page.specs.declared.place.Extent.{Extent}
@@ -24,8 +23,5 @@ landscape_dots frame page index y none is high =
     dot n =
         elim (cases_lt n page.width) [
           | inl wide ↦ sym (dot_of_page Landscape frame page n y is wide high)
-          | inr past ↦
-              false_unless (black_at frame (page.height - 1 - y) n) _ (none.inside (page.height - 1 - y) n)
-              (λ within. omega (arith, within.1, past, ap (λ (e : Extent). e.width) sized))
-              ∙ white_outside Landscape frame page n y is (λ wide below. omega (arith, wide, past))
+          | inr past ↦ grind (arith, none.inside (page.height - 1 - y) n, sized, white_outside Landscape frame page n y is)
         ]

@@ -1,13 +1,12 @@
 -- Pages that are written line by line.
-use Rattle.std.proofs.Common.{◌≡◌, ℕ, ◌+◌, ◌-◌, ◌<◌, ◌≤◌, Bool, true, false, ◌&&◌, List, take, ◌*◌, refl, sym, ap, subst, ◌∙◌, inl, arith}
-use Rattle.std.specs.Prelude.{nat_eq, nat_lt, nat_le, pos, if◌then◌else◌}
+use Rattle.std.proofs.Common.{◌≡◌, ℕ, ◌+◌, ◌<◌, ◌≤◌, Bool, true, false, ◌&&◌, List, take, ◌*◌, refl, ap, ◌∙◌, inl, arith}
+use Rattle.std.specs.Prelude.{nat_eq, nat_lt, pos, if◌then◌else◌}
 use Rattle.std.proofs.lemmas.Bool.Decides.{nat_tests}
-use Rattle.press_bits.specs.DotRule.{dot_after}
 use Rattle.press_bits.specs.Mark.{Row, marked_dot, painted, row_dot, row_mark, eight_black}
 use Rattle.press_bits.specs.Page.{Page, HasNoDotOutside, black_at, page_where, blank}
 use Rattle.press_bits.specs.declared.mode.Mode.{Mode}
 use Rattle.press_bits.proofs.LineLemmas.{row_dot-slice}
-use Rattle.press_bits.proofs.MarkLemmas.{effect_where, row_lands, repeated-eight_black}
+use Rattle.press_bits.proofs.MarkLemmas.{row_lands, repeated-eight_black}
 use Rattle.press_bits.proofs.PageLemmas.{page_where_alike, page_where_itself, width-page_where, height-page_where, black_at-page_where, blank_is}
 use Rattle.press_page.specs.declared.media.Orientation.{Orientation}
 use Rattle.press_canvas.specs.Strip.{place_at}
@@ -18,44 +17,32 @@ use Rattle.press_canvas.specs.Turned.{turned_dot, turned_page, turned_before, pa
 abbrev pub opaque : Mode
 opaque = record { source_opaque = true; pattern_opaque = true }
 
-written : (inside source before : Bool) → dot_after (effect_where inside opaque source true) before ≡ (if inside then source else before)
-written true true before = refl
-written true false before = refl
-written false source before = refl
-
-whole : (n y x w : ℕ) → x < w → ((nat_eq n y && nat_le 0 x) && nat_lt x (0 + w)) ≡ nat_eq n y
-whole n y x w within = grind (arith, nat_tests)
-
 -- an opaque row as wide as the page is another line
 pub painted_line : (page : Page) (y : ℕ) (source pattern : Row) → source.dots ≡ page.width → pattern ≡ eight_black →
     painted page (row_mark (pos 0) (pos y) source pattern opaque) ≡ with_line page y (row_dot source.bits)
 unfolding painted marked_dot
 painted_line page y source pattern wide solid =
-    ap (λ (p : Row). painted page (row_mark (pos 0) (pos y) source p opaque)) solid
-    ∙ page_where_alike page.width page.height (marked_dot page (row_mark (pos 0) (pos y) source eight_black opaque)) (λ x n. if nat_eq n y then row_dot source.bits x else black_at page x n)
-    (λ x n left above.
-    let same : 0 + (x - 0) ≡ x = omega arith in
-    ap (λ e. dot_after e (black_at page x n))
-    (row_lands (pos 0) (pos y) source eight_black opaque 0 0 page.width y page.width x n refl (inl refl) refl (omega (arith, wide)) left
-    ∙ (λ i. effect_where (whole n y x page.width left i) opaque (row_dot source.bits (same i)) (repeated-eight_black x i)))
-    ∙ written (nat_eq n y) (row_dot source.bits x) (black_at page x n))
+    grind (
+      arith,
+      solid,
+      page_where_alike page.width page.height (marked_dot page (row_mark (pos 0) (pos y) source eight_black opaque)) (λ x n. if nat_eq n y then row_dot source.bits x else black_at page x n)
+          (λ x n left above. grind (
+            arith,
+            nat_tests,
+            repeated-eight_black,
+            row_lands (pos 0) (pos y) source eight_black opaque 0 0 page.width y page.width x n refl (inl refl) refl (omega (arith, wide)) left,
+          )),
+    )
 
 -- ---- the dots that are written
 
 pub row_dot-prefix : (bits : List ℕ) (n x : ℕ) → x < 8 * n → row_dot (take n bits) x ≡ row_dot bits x
-row_dot-prefix bits n x low =
-    let place : 8 * 0 + x ≡ x = omega arith in
-    row_dot-slice bits 0 n x low ∙ ap (row_dot bits) place
+row_dot-prefix bits n x low = grind (arith, row_dot-slice bits 0 n x low)
 
 pub with_line_alike : (page : Page) (y : ℕ) (a b : ℕ → Bool) → ((x : ℕ) → x < page.width → a x ≡ b x) → with_line page y a ≡ with_line page y b
-with_line_alike page y a b same =
-    page_where_alike page.width page.height (λ x n. if nat_eq n y then a x else black_at page x n) (λ x n. if nat_eq n y then b x else black_at page x n)
-    (λ x n left _. ap (λ (d : Bool). if nat_eq n y then d else black_at page x n) (same x left))
+with_line_alike page y a b same = grind (arith, page_where_alike)
 
 -- ---- the lines of a turned frame
-
-joined : (m n : ℕ) (d t : Bool) → (m ≡ n → d ≡ t) → (if nat_eq m n then d else (nat_lt m n && t)) ≡ (nat_lt m (n + 1) && t)
-joined m n d t same = grind (arith, nat_tests)
 
 pub lines_more : (o : Orientation) (w h : ℕ) (frame page : Page) (n : ℕ) (dots : ℕ → Bool) → page ≡ turned_before o w h frame n →
     ((x : ℕ) → x < w → dots x ≡ turned_dot o w h frame x n) → with_line page n dots ≡ turned_before o w h frame (n + 1)
@@ -65,61 +52,31 @@ lines_more o w h frame page n dots before right =
     ap (λ p. with_line p n dots) before
     ∙ (λ i. page_where (width-page_where w h rule i) (height-page_where w h rule i) (put (page_where w h rule)))
     ∙ page_where_alike w h (put (page_where w h rule)) (λ x m. nat_lt m (n + 1) && turned_dot o w h frame x m)
-    (λ x m left above.
-    ap (λ (b : Bool). if nat_eq m n then dots x else b) (black_at-page_where w h rule x m left above)
-    ∙ joined m n (dots x) (turned_dot o w h frame x m) (λ here. right x left ∙ ap (turned_dot o w h frame x) (sym here)))
-
-none_before : (m : ℕ) (t : Bool) → false ≡ (nat_lt m 0 && t)
-none_before m t = grind (arith, nat_tests)
+    (λ x m left above. grind (arith, nat_tests, black_at-page_where w h rule x m left above, right x left))
 
 pub lines_none : (o : Orientation) (w h : ℕ) (frame : Page) → blank w h ≡ turned_before o w h frame 0
-lines_none o w h frame = blank_is w h ∙ page_where_alike w h (λ _ _. false) _ (λ x m _ _. none_before m (turned_dot o w h frame x m))
-
-all_before : (m n h : ℕ) (t : Bool) → m < h → h ≤ n → (nat_lt m n && t) ≡ t
-all_before m n h t within all = grind (arith, nat_tests)
+lines_none o w h frame = blank_is w h ∙ page_where_alike w h (λ _ _. false) _ (λ x m _ _. grind (arith, nat_tests))
 
 pub lines_all : (o : Orientation) (w h : ℕ) (frame : Page) (n : ℕ) → h ≤ n → turned_before o w h frame n ≡ turned_page o w h frame
 unfolding turned_page
-lines_all o w h frame n all = page_where_alike w h _ (turned_dot o w h frame) (λ x m _ above. all_before m n h (turned_dot o w h frame x m) above all)
+lines_all o w h frame n all = page_where_alike w h _ (turned_dot o w h frame) (λ x m _ above. grind (arith, nat_tests))
 
 -- ---- lines that are white, and upright ones
 
-no_line : (n : ℕ) (t : Bool) → (nat_lt n n && t) ≡ false
-no_line n t = grind (arith, nat_tests)
-
 -- the line that is written next is white so far
 pub next_white : (o : Orientation) (w h : ℕ) (frame page : Page) (n x : ℕ) → page ≡ turned_before o w h frame n → x < w → n < h → black_at page x n ≡ false
-next_white o w h frame page n x before left above =
-    ap (λ p. black_at p x n) before
-    ∙ black_at-page_where w h (λ x m. nat_lt m n && turned_dot o w h frame x m) x n left above
-    ∙ no_line n (turned_dot o w h frame x n)
+next_white o w h frame page n x before left above = grind (arith, black_at-page_where)
 
 -- a white line takes the place of a white line
 pub white_line : (page : Page) (y : ℕ) (bits : ℕ → Bool) → HasNoDotOutside page
     → ((x : ℕ) → x < page.width → y < page.height → black_at page x y ≡ false) → ((x : ℕ) → x < page.width → bits x ≡ false) →
     page ≡ with_line page y bits
 white_line page y bits none clear white =
-    sym (page_where_itself page none)
-    ∙ page_where_alike page.width page.height (black_at page) (λ x n. if nat_eq n y then bits x else black_at page x n)
-    (λ x n left above.
-    kept (nat_eq n y) (black_at page x n) (bits x)
-    (λ test.
-    ap (black_at page x) (equal_of n y test)
-    ∙ clear x left (subst (λ m. m < page.height) (equal_of n y test) above)
-    ∙ sym (white x left)))
-  where
-    kept : (test a b : Bool) → (test ≡ true → a ≡ b) → a ≡ (if test then b else a)
-    kept true a b same = same refl
-    kept false a b same = refl
-
-    equal_of : (n y : ℕ) → nat_eq n y ≡ true → n ≡ y
-    equal_of n y test = grind (arith, nat_tests)
+    grind (arith, page_where_itself page none, page_where_alike page.width page.height (black_at page) (λ x n. if nat_eq n y then bits x else black_at page x n) (λ x n left above. grind arith))
 
 -- the dots of the lines of an upright frame, from its first dot on or from its last one back
 pub upright_dot : (back : Bool) (w h : ℕ) (frame : Page) (x y : ℕ) → black_at frame (place_at back w x) (place_at back h y) ≡ turned_dot (upright back) w h frame x y
-upright_dot false w h frame x y = refl
-upright_dot true w h frame x y = refl
+upright_dot back w h frame x y = grind arith
 
 pub upright_page : (back : Bool) (frame : Page) → turned_page (upright back) frame.width frame.height frame ≡ page_of_frame (upright back) frame
-upright_page false frame = refl
-upright_page true frame = refl
+upright_page back frame = grind arith

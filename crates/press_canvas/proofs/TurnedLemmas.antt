@@ -1,5 +1,5 @@
 -- What is known of turned pages: their dots, that they turn back, and that painting and turning may be exchanged.
-use Rattle.std.proofs.Common.{◌≡◌, ℕ, ◌-◌, ◌<◌, false, refl, sym, ap, subst, ◌∙◌, arith}
+use Rattle.std.proofs.Common.{◌≡◌, ℕ, ◌<◌, false, sym, ap, subst, ◌∙◌, arith}
 use Rattle.press_bits.specs.DotRule.{dot_after}
 use Rattle.press_bits.specs.Mark.{Mark, effect_at, marked_dot, painted}
 use Rattle.press_bits.specs.Page.{Page, black_at, blank, HasNoDotOutside}
@@ -8,7 +8,6 @@ use Rattle.press_bits.proofs.PageLemmas.{page_where_itself, page_where_alike, wi
 use Rattle.press_page.specs.PageSetup.{turned}
 use Rattle.press_page.specs.Place.{placed_dot}
 use Rattle.press_page.specs.declared.media.Orientation.{Orientation}
-use Rattle.press_page.specs.declared.media.Orientation.TheVariants.{Portrait, Landscape, ReversePortrait, ReverseLandscape}
 use Rattle.press_canvas.specs.Turned.{turned_page, opposite, in_frame, on_page}
 
 -- ---- size and dots
@@ -33,10 +32,7 @@ black_at-turned_page o w h frame x y wide high = black_at-page_where w h _ x y w
 -- the frame's dot of a dot of the page lies on the frame
 pub placed_inside : (o : Orientation) (w h x y : ℕ) → x < w → y < h →
     let dot = placed_dot o w h x y in let frame = turned o (record { width = w; height = h }) in (dot.0 < frame.width) × (dot.1 < frame.height)
-placed_inside Portrait w h x y wide high = (wide, high)
-placed_inside Landscape w h x y wide high = (omega arith, wide)
-placed_inside ReversePortrait w h x y wide high = (omega arith, omega arith)
-placed_inside ReverseLandscape w h x y wide high = (high, omega arith)
+placed_inside o w h x y wide high = grind arith
 
 -- ---- there and back
 
@@ -45,14 +41,7 @@ pub placed_forth : (o : Orientation) (w h x y : ℕ) →
     let frame = turned o (record { width = w; height = h }) in
     let dot = placed_dot (opposite o) frame.width frame.height x y in
     x < frame.width → y < frame.height → (dot.0 < w) × (dot.1 < h) × (placed_dot o w h dot.0 dot.1 ≡ (x, y))
-placed_forth Portrait w h x y wide high = (wide, high, refl)
-placed_forth Landscape w h x y wide high =
-    let same : h - 1 - (h - 1 - x) ≡ x = omega arith in (high, omega arith, λ i. (same i, y))
-placed_forth ReversePortrait w h x y wide high =
-    let same : w - 1 - (w - 1 - x) ≡ x = omega arith in
-    let level : h - 1 - (h - 1 - y) ≡ y = omega arith in (omega arith, omega arith, λ i. (same i, level i))
-placed_forth ReverseLandscape w h x y wide high =
-    let same : w - 1 - (w - 1 - y) ≡ y = omega arith in (omega arith, wide, λ i. (x, same i))
+placed_forth o w h x y wide high = grind arith
 
 -- the page of a frame, turned back, is the frame
 pub turned_back : (o : Orientation) (w h : ℕ) (frame : Page) → HasNoDotOutside frame →

@@ -1,5 +1,5 @@
 -- Worked places of pages that are turned, computed.
-use Rattle.std.proofs.Common.{◌≡◌, ℕ, true, false, refl}
+use Rattle.std.proofs.Common.{◌≡◌, true, refl}
 use Rattle.press_page.specs.Place.{placed_dot}
 use Rattle.press_page.specs.declared.media.Orientation.TheVariants.{Landscape, ReversePortrait, ReverseLandscape}
 use Rattle.press_canvas.specs.Block.{dot_from, line_from, swapped_place}

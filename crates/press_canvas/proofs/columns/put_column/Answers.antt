@@ -1,4 +1,4 @@
-use Rattle.std.proofs.Common.{◌≡◌, ℕ, ◌∙◌, ◌+◌, ◌-◌, ◌*◌, ◌%◌, ◌<◌, List, take, drop, ap, refl, Bool, arith}
+use Rattle.std.proofs.Common.{◌≡◌, ℕ, ◌∙◌, ◌+◌, ◌-◌, ◌*◌, ◌%◌, ◌<◌, List, take, drop, refl, Bool, arith}
 use Rattle.press_bits.specs.Page.{Page}
 use Rattle.press_bits.specs.Mark.{row_dot}
 use Rattle.press_bits.proofs.BandLemmas.{after_ok}
@@ -11,7 +11,7 @@ use Rattle.press_canvas.proofs.columns.put_column.Goals as goal
 line_dots : (strip bytes : List ℕ) (line count q : ℕ) → count ≡ 2048 → bytes ≡ take count (drop (line * 2112) strip) → q < 16384 → row_dot bytes q ≡ strip_dot strip line q
 line_dots strip bytes line count q all is low =
     let at : 8 * (line * 2112) + q ≡ 16896 * line + q = omega arith in
-    ap (λ (b : List ℕ). row_dot b q) (is ∙ ap (λ n. take n (drop (line * 2112) strip)) all) ∙ row_dot-slice strip (line * 2112) 2048 q low ∙ ap (row_dot strip) at
+    cc (is, all, row_dot-slice strip (line * 2112) 2048 q low, at)
 
 pub returns-clause-put : goal.returns-clause-put
 returns-clause-put c =

@@ -1,3 +1,4 @@
+use Rattle.std.proofs.Common.{arith}
 use Rattle.std.proofs.Common.{◌≡◌, refl, sym, subst, ap, ◌∙◌, rules}
 use Rattle.press_page.specs.declared.media.Orientation.{Orientation}
 use Rattle.press_page.specs.declared.place.Extent.{Extent}
@@ -16,8 +17,7 @@ sized : (c : goal.After-changed_between-arg-1) → extent c.args.after.now.bitma
 sized c =
     let before = c.args.self.now in
     let after = c.args.after.now in
-    laid_extent after.orientation before.orientation before.bitmap after.bitmap (frame_page before) refl
-    (one c ∙ sym (other c)) c.requires.extent
+    grind (arith, laid_extent after.orientation before.orientation before.bitmap after.bitmap (frame_page before) refl (one c ∙ sym (other c)) c.requires.extent)
 
 pub changed_between-requires-clause-width : goal.changed_between-requires-clause-width
 changed_between-requires-clause-width c = ap (λ (e : Extent). e.width) (sized c)

@@ -1,4 +1,4 @@
-use Rattle.std.proofs.Common.{◌≡◌, ℕ, ◌<◌, sym, subst}
+use Rattle.std.proofs.Common.{◌≡◌, ℕ, ◌<◌, sym, subst, arith}
 use Rattle.press_page.specs.Place.{placed_dot}
 use Rattle.press_page.specs.declared.place.Extent.{Extent}
 use Rattle.press_canvas.specs.Changes.{AreOn, IsBeside}
@@ -9,11 +9,7 @@ use Rattle.press_canvas.proofs.CatchLemmas.{extent_of_frame, pages_changed}
 use Rattle.press_canvas.proofs.frame.Frame.take_lines.Goals as goal
 
 pub on_page-changed-requires : goal.on_page-changed-requires
-on_page-changed-requires c =
-    let frame = c.args.self.now in
-    subst (λ (page : Extent). AreOn page c.changed_dots-dots.result)
-    (sym (extent_of_frame frame.orientation frame.bitmap c.page_extent.result c.page_extent.ensures.extent))
-    c.changed_dots-dots.ensures.on
+on_page-changed-requires c = grind (arith, extent_of_frame)
 
 pub returns-clause-region : goal.returns-clause-region
 returns-clause-region c =
