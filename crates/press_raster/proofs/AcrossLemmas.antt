@@ -26,8 +26,5 @@ painted_beside frame left lines size columns source brush inside is beside =
       | inr outside ↦
           painted_strip_no_lines Portrait frame left lines.first (size * source.dots) (λ i. row_dot source.bits (i / size)) brush.tile brush.mode inside
           ∙ painted_strip_cut Portrait frame left lines.first (size * source.dots) 0 (size * source.dots) lines.count (λ i. row_dot source.bits (i / size)) brush.tile brush.mode refl
-          (no_lines lines.first lines.count frame.height outside)
+          (omega (arith, outside))
     ]
-  where
-    no_lines : (first count height : ℕ) → min (first + count) height ≤ first → min (first + 0) height ≡ min (first + count) height
-    no_lines first count height outside = omega (arith, outside)

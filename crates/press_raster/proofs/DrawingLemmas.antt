@@ -1,21 +1,18 @@
 -- Rows that are drawn one below the other, and data of which no row has effect.
-use Rattle.std.proofs.Common.{◌≡◌, ◌∙◌, ◌+◌, ℕ, zero, suc, Bool, true, false, if◌then◌else◌, List, [], ◌∷◌, ◌++◌, replicate, Option, Some, None, refl, sym, ap, rules, arith}
-use Rattle.std.specs.Prelude.{◌&&◌, is_some, is_none, nat_lt, min, pos}
+use Rattle.std.proofs.Common.{◌≡◌, ◌∙◌, ◌+◌, ℕ, zero, suc, Bool, true, false, if◌then◌else◌, List, [], ◌∷◌, ◌++◌, replicate, Some, None, refl, sym, ap, rules, arith}
+use Rattle.std.specs.Prelude.{◌&&◌, is_some, is_none, nat_lt, pos}
 use Rattle.std.specs.List.{list_any}
 use Rattle.std.proofs.lemmas.Bool.{true≢false}
 use Rattle.std.proofs.lemmas.Bool.Decides.{nat_tests}
 use Rattle.std.proofs.lemmas.List.Sums.{fold-append}
 use Rattle.press_bits.specs.Bands.{BandedPage}
 use Rattle.press_bits.specs.Lines.{bytes_per_line}
-use Rattle.press_bits.specs.Mark.{Mark, painted}
+use Rattle.press_bits.specs.Mark.{painted}
 use Rattle.press_bits.specs.Page.{Page}
-use Rattle.press_bits.proofs.MarkLemmas.{width-painted, height-painted}
 use Rattle.press_cursor.specs.Cursor.{moved_y}
 use Rattle.press_cursor.specs.CursorState.{CursorState}
 use Rattle.press_page.specs.Environment.{logical_page_of}
-use Rattle.press_page.specs.Place.{lines_below}
 use Rattle.press_page.specs.declared.environment.PageEnv.{PageEnv}
-use Rattle.press_page.specs.declared.media.Orientation.{Orientation}
 use Rattle.press_page.specs.declared.place.FrameLines.{FrameLines}
 use Rattle.press_pattern.specs.declared.brush.Brush.{Brush}
 use Rattle.press_canvas.specs.Turned.{page_of_frame}
@@ -23,11 +20,11 @@ use Rattle.press_rows.specs.Blocks.{Item, count_rows}
 use Rattle.press_rows.specs.Row.{fitted, raster_row}
 use Rattle.press_rows.specs.declared.compression.Method.{Method}
 use Rattle.press_raster.specs.Drawing.{IsSetUp, drawn_by, layout, lines_at, one_row_on, setup_of}
-use Rattle.press_raster.specs.Graphics.{RasterGraphics, graphics, is_below_height, most_rows, takes_row, trimmed, whitened}
-use Rattle.press_raster.specs.Mark.{raster_mark, row_strip, row_on_frame}
+use Rattle.press_raster.specs.Graphics.{RasterGraphics, graphics, is_below_height, takes_row, trimmed, whitened}
+use Rattle.press_raster.specs.Mark.{row_on_frame}
 use Rattle.press_raster.specs.Rows.{Drawn, drawn, with_item, with_items}
-use Rattle.press_raster.specs.Settings.{dot_size, row_height}
-use Rattle.press_raster.specs.Transfer.{row_corner, row_dots}
+use Rattle.press_raster.specs.Settings.{row_height}
+use Rattle.press_raster.specs.Transfer.{row_dots}
 use Rattle.press_raster.specs.declared.drawing.Drawing.{Drawing}
 use Rattle.press_raster.specs.declared.drawing.RowSetup.{RowSetup}
 use Rattle.press_raster.specs.declared.raster.RasterPosition.{RasterPosition}
@@ -42,25 +39,6 @@ module _ (environment : PageEnv) (settings : RasterSettings) (brush : Brush) whe
   abbrev pub place_at : CursorState → RowPlace
   place_at cursor = record { environment = environment; y = cursor.y }
 
-  -- what is drawn with a row of these bits, which has effect
-  abbrev pub with_bits : RasterGraphics → Page → CursorState → List ℕ → Drawn
-  with_bits on page cursor bits =
-      drawn (Some (record { left = on.left; rows = min most_rows (on.rows + 1); seed = trimmed bits }))
-      (painted page (raster_mark environment.page_setup.orientation page (row_corner (place_at cursor) on.left)
-      (dot_size settings.resolution environment.page_setup.resolution)
-      (record { bits = bits; dots = row_dots (place_at cursor) settings on.left }) brush))
-      (moved_y (pos (row_height settings.resolution)) true (logical_page_of environment) cursor)
-
-  -- a row that has effect
-  pub with_item-taken : (on : RasterGraphics) (page : Page) (cursor : CursorState) (row : Method × List ℕ) → is_below_height settings.source_height on.rows ≡ true →
-      with_item environment settings brush (drawn (Some on) page cursor) (Some row)
-      ≡ with_bits on page cursor (raster_row row.0 row.1 on.seed (bytes_per_line (row_dots (place_at cursor) settings on.left)))
-  with_item-taken on page cursor row below = search (rules, below)
-
-  -- and one that has none
-  pub with_item-untaken : (d : Drawn) (row : Method × List ℕ) → takes_row settings d.graphics ≡ false → with_item environment settings brush d (Some row) ≡ d
-  with_item-untaken d row untaken = search (rules, untaken)
-
   -- items behind others
   pub with_items-append : (xs ys : List Item) (d : Drawn) →
       with_items environment settings brush (xs ++ ys) d ≡ with_items environment settings brush ys (with_items environment settings brush xs d)
@@ -70,28 +48,11 @@ module _ (environment : PageEnv) (settings : RasterSettings) (brush : Brush) whe
   pub with_items-settled : (n : ℕ) (item : Item) (d : Drawn) → with_item environment settings brush d item ≡ d →
       with_items environment settings brush (replicate n item) d ≡ d
   with_items-settled zero item d same = refl
-  with_items-settled (suc n) item d same = ap (with_items environment settings brush (replicate n item)) same ∙ with_items-settled n item d same
-
-  -- white once and twice
-  white_twice : (graphics : Option RasterGraphics) → whitened (whitened graphics) ≡ whitened graphics
-  white_twice None = refl
-  white_twice (Some on) = refl
-
-  takes_row-whitened : (graphics : Option RasterGraphics) → takes_row settings (whitened graphics) ≡ takes_row settings graphics
-  takes_row-whitened None = refl
-  takes_row-whitened (Some on) = refl
+  with_items-settled (suc n) item d same = grind (arith, same, with_items-settled n item d same)
 
   -- what an item that has no effect leaves: the seed row is white, where an item says so
   abbrev pub after_idle : Bool → Drawn → Drawn
   after_idle white d = record d { graphics = if white then whitened d.graphics else d.graphics }
-
-  after_idle-white : (white : Bool) (d : Drawn) → after_idle white (record d { graphics = whitened d.graphics }) ≡ record d { graphics = whitened d.graphics }
-  after_idle-white true d = ap (λ g. record d { graphics = g }) (white_twice d.graphics)
-  after_idle-white false d = refl
-
-  not_both : (a : Bool) → (a && true) ≡ false → a ≡ false
-  not_both true is = is
-  not_both false is = refl
 
   still : (a b : Bool) → a ≡ false → (a && b) ≡ false
   still a b none = ap (λ t. t && b) none
@@ -100,13 +61,10 @@ module _ (environment : PageEnv) (settings : RasterSettings) (brush : Brush) whe
   pub with_items-idle : (xs : List Item) (d : Drawn) → (takes_row settings d.graphics && list_any is_some xs) ≡ false →
       with_items environment settings brush xs d ≡ after_idle (list_any is_none xs) d
   with_items-idle [] d idle = refl
-  with_items-idle (None ∷ others) d idle =
-      with_items-idle others (record d { graphics = whitened d.graphics }) (ap (λ t. t && list_any is_some others) (takes_row-whitened d.graphics) ∙ idle)
-      ∙ after_idle-white (list_any is_none others) d
+  with_items-idle (None ∷ others) d idle = grind (arith, with_items-idle others (record d { graphics = whitened d.graphics }) (ap (λ t. t && list_any is_some others) (grind arith) ∙ idle))
   with_items-idle (Some row ∷ others) d idle =
-      let untaken : takes_row settings d.graphics ≡ false = not_both (takes_row settings d.graphics) idle in
-      ap (with_items environment settings brush others) (with_item-untaken d row untaken)
-      ∙ with_items-idle others d (still (takes_row settings d.graphics) (list_any is_some others) untaken)
+      let untaken : takes_row settings d.graphics ≡ false = grind arith in
+      grind (arith, rules, untaken, with_items-idle others d (still (takes_row settings d.graphics) (list_any is_some others) untaken))
 
   -- seed rows count as they are cut or filled up to the width of a row, where a row has effect
   pub with_items-fitted : (xs : List Item) (on : RasterGraphics) (seed : List ℕ) (page : Page) (cursor : CursorState) (width : ℕ) →
@@ -117,21 +75,12 @@ module _ (environment : PageEnv) (settings : RasterSettings) (brush : Brush) whe
   with_items-fitted [] on seed page cursor width wide below some same = absurd (true≢false (sym some))
   with_items-fitted (None ∷ others) on seed page cursor width wide below some same = refl
   with_items-fitted (Some row ∷ others) on seed page cursor width wide below some same =
-      ap (with_items environment settings brush others)
-      (with_item-taken (record on { seed = seed }) page cursor row below
-      ∙ ap (with_bits on page cursor)
-      (ap (raster_row row.0 row.1 seed) (sym wide)
-      ∙ sym (raster_row-fitted row.0 row.1 seed width) ∙ ap (λ bytes. raster_row row.0 row.1 bytes width) same ∙ raster_row-fitted row.0 row.1 on.seed width
-      ∙ ap (raster_row row.0 row.1 on.seed) wide)
-      ∙ sym (with_item-taken on page cursor row below))
+      grind (arith, rules, below, wide, raster_row-fitted row.0 row.1 seed width, same, raster_row-fitted row.0 row.1 on.seed width)
 
 -- how many rows a run is, before others
 pub count_rows-run : (n : ℕ) (row : Method × List ℕ) (others : List Item) → count_rows (replicate n (Some row) ++ others) ≡ n + count_rows others
-count_rows-run zero row others =
-    let none : count_rows others ≡ 0 + count_rows others = omega arith in none
-count_rows-run (suc n) row others =
-    let more : suc (n + count_rows others) ≡ suc n + count_rows others = omega arith in
-    ap suc (count_rows-run n row others) ∙ more
+count_rows-run zero row others = grind arith
+count_rows-run (suc n) row others = grind (arith, count_rows-run n row others)
 
 -- there is a row where rows are counted
 pub count_rows-some : (items : List Item) → nat_lt 0 (count_rows items) ≡ list_any is_some items
@@ -143,13 +92,6 @@ count_rows-some (Some row ∷ others) = grind (arith, nat_tests)
 pub none_white-run : (n : ℕ) (row : Method × List ℕ) (others : List Item) → list_any is_none (replicate n (Some row) ++ others) ≡ list_any is_none others
 none_white-run zero row others = refl
 none_white-run (suc n) row others = none_white-run n row others
-
--- painting leaves the layout of a page
-pub layout-painted : (page page' : BandedPage) (mark : Mark) → page'.page ≡ painted page.page mark → page'.ready ≡ page.ready → layout page' ≡ layout page
-layout-painted page page' mark painting ready =
-    let wide = ap (λ (p : Page). p.width) painting ∙ width-painted page.page mark in
-    let high = ap (λ (p : Page). p.height) painting ∙ height-painted page.page mark in
-    λ i. record { width = wide i; height = high i; ready = ready i }
 
 -- rows that are drawn from the seed row as it is cut or filled up, where one has effect
 pub drawn-fitted : (setup : RowSetup) (environment : PageEnv) (settings : RasterSettings) (brush : Brush) (width : ℕ) (position : RasterPosition) (seed : List ℕ)
@@ -181,20 +123,4 @@ pub row_drawn : (setup : RowSetup) (brush : Brush) (drawing : Drawing) (frame af
     drawn (graphics (Some position) seed) (page_of_frame setup.environment.page_setup.orientation after.page) moved
     ≡ with_item setup.environment setup.settings brush (drawn_by setup drawing frame cursor) (Some row)
 row_drawn setup brush drawing frame after cursor moved row lines source bits seed position is below bits_are source_is seed_is lines_are position_is moved_is painting =
-    let o : Orientation = setup.environment.page_setup.orientation in
-    let page : Page = page_of_frame o frame.page in
-    let on : RasterGraphics = record { left = drawing.position.left; rows = drawing.position.rows; seed = trimmed drawing.seed.items } in
-    let place : RowPlace = place_at setup.environment setup.settings brush cursor in
-    let left : setup.across.column ≡ (row_corner place on.left).x = ap (λ (s : RowSetup). s.across.column) is.same in
-    let size : setup.across.size ≡ dot_size setup.settings.resolution setup.environment.page_setup.resolution = ap (λ (s : RowSetup). s.across.size) is.same in
-    let covered : lines ≡ lines_below (row_corner place on.left).y (dot_size setup.settings.resolution setup.environment.page_setup.resolution)
-    = lines_are ∙ ap (lines_below (row_corner place on.left).y) size in
-    let dots : setup.dots ≡ row_dots place setup.settings on.left = ap (λ (s : RowSetup). s.dots) is.same in
-    (λ i. drawn (graphics (Some (position_is i)) (seed_is i))
-    (row_turned o frame.page after.page setup.across.column lines setup.across.size (record { bits = source; dots = setup.dots }) brush painting i) (moved_is i))
-    ∙ (λ i. drawn (graphics (Some (one_row_on drawing.position)) bits)
-    (painted page (row_strip o page (left i) (covered i) (size i) (record { bits = source_is i; dots = dots i }) brush))
-    (moved_y (pos (row_height setup.settings.resolution)) true (logical_page_of setup.environment) cursor))
-    ∙ ap (with_bits setup.environment setup.settings brush on page cursor)
-    (bits_are ∙ sym (raster_row-trimmed row.0 row.1 drawing.seed.items (bytes_per_line setup.dots)) ∙ ap (λ n. raster_row row.0 row.1 on.seed (bytes_per_line n)) dots)
-    ∙ sym (with_item-taken setup.environment setup.settings brush on page cursor row below)
+    grind (arith, raster_row-trimmed, row_turned)

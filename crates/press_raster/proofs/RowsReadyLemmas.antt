@@ -1,12 +1,10 @@
 -- The lines that are ready for rows one below the other.
-use Rattle.std.proofs.Common.{◌≡◌, ◌+◌, ◌-◌, ◌*◌, ◌/◌, ◌<◌, ◌≤◌, ◌⊎◌, ℕ, zero, suc, Bool, true, false, replicate, Some, None, refl, ap, subst, min, inl, inr, arith}
+use Rattle.std.proofs.Common.{◌≡◌, ◌+◌, ◌-◌, ◌*◌, ◌/◌, ◌≤◌, ◌⊎◌, ℕ, zero, suc, Bool, true, false, replicate, Some, None, refl, ap, subst, min, inl, inr, arith, rules}
 use Rattle.std.specs.Prelude.{ℤ, pos, negsuc, ◌+ℤ◌, int_le, int_lt, if◌then◌else◌}
-use Rattle.std.proofs.Math.Nat.{suc-mul, mul-le-mul_right, le-mul_of_pos_right}
+use Rattle.std.proofs.Math.Nat.{suc-mul, le-mul_of_pos_right}
 use Rattle.std.proofs.lemmas.Bool.{cases_lt}
-use Rattle.std.proofs.lemmas.Int.{ints}
 use Rattle.press_units.specs.Position.{dot_of, positions_per_dot}
 use Rattle.press_units.specs.declared.position.Resolution.{Resolution}
-use Rattle.press_units.specs.declared.position.Resolution.TheVariants as print
 use Rattle.press_bits.specs.Bands.{BandedPage, AreReady}
 use Rattle.press_bits.specs.Page.{longest_side}
 use Rattle.press_cursor.specs.Bounds.{nearest_y}
@@ -22,73 +20,29 @@ use Rattle.press_raster.specs.Graphics.{takes_row}
 use Rattle.press_raster.specs.Rows.{Drawn, with_item, with_items, with_row}
 use Rattle.press_raster.specs.Settings.{dot_size, row_height}
 use Rattle.press_raster.specs.Transfer.{row_corner}
-use Rattle.press_raster.specs.Widening.{IsDotSize}
 use Rattle.press_raster.specs.declared.drawing.Drawing.{Drawing}
 use Rattle.press_raster.specs.declared.drawing.RowSetup.{RowSetup}
 use Rattle.press_raster.specs.declared.settings.RasterResolution.{RasterResolution}
-use Rattle.press_raster.specs.declared.settings.RasterResolution.TheVariants.{Dpi75, Dpi100, Dpi150, Dpi200, Dpi300, Dpi600}
 
 -- ---- lines of a strip
-
--- a line that lies from a line on, and before one, counted from the top of the page
-from_top : (a n : ℕ) → int_le (pos a) (pos n) ≡ true → a ≤ n
-from_top a n is = grind (arith, ints)
-
-before_top : (a b n : ℕ) → int_lt (pos n) (pos a +ℤ pos b) ≡ true → n < a + b
-before_top a b n is = grind (arith, ints)
-
-is_from_top : (a n : ℕ) → a ≤ n → int_le (pos a) (pos n) ≡ true
-is_from_top a n is = grind (arith, ints)
-
-is_before_top : (a b n : ℕ) → n < a + b → int_lt (pos n) (pos a +ℤ pos b) ≡ true
-is_before_top a b n is = grind (arith, ints)
 
 -- a part of a strip, as far as the frame goes
 pub strip_within : (frame : BandedPage) (first lines line size : ℕ) → first ≤ line → min frame.page.height (line + size) ≤ first + lines →
     AreReady frame (pos first) lines → AreReady frame (pos line) size
-strip_within frame first lines line size begins ends ready = λ n from to inside.
-    ready n (is_from_top first n (omega (arith, begins, from_top line n from)))
-    (is_before_top first lines n (omega (arith, ends, inside, before_top line size n to))) inside
+strip_within frame first lines line size begins ends ready = grind arith
 
 -- ---- heights of rows
 
 -- a dot of a row is no higher than the lines that a row takes, and a row takes a line at least
 pub size_fits : (rows : RasterResolution) (page : Resolution) →
     (dot_size rows page ≤ (row_height rows + (positions_per_dot page - 1)) / positions_per_dot page) × (1 ≤ (row_height rows + (positions_per_dot page - 1)) / positions_per_dot page)
-size_fits Dpi75 print.Dpi300 = (omega arith, omega arith)
-size_fits Dpi75 print.Dpi600 = (omega arith, omega arith)
-size_fits Dpi100 print.Dpi300 = (omega arith, omega arith)
-size_fits Dpi100 print.Dpi600 = (omega arith, omega arith)
-size_fits Dpi150 print.Dpi300 = (omega arith, omega arith)
-size_fits Dpi150 print.Dpi600 = (omega arith, omega arith)
-size_fits Dpi200 print.Dpi300 = (omega arith, omega arith)
-size_fits Dpi200 print.Dpi600 = (omega arith, omega arith)
-size_fits Dpi300 print.Dpi300 = (omega arith, omega arith)
-size_fits Dpi300 print.Dpi600 = (omega arith, omega arith)
-size_fits Dpi600 print.Dpi300 = (omega arith, omega arith)
-size_fits Dpi600 print.Dpi600 = (omega arith, omega arith)
-
--- how many dots of the page a dot of a row is wide
-pub size_is : (rows : RasterResolution) (page : Resolution) → IsDotSize (dot_size rows page)
-size_is Dpi75 print.Dpi300 = inl (omega arith)
-size_is Dpi75 print.Dpi600 = inr (inr refl)
-size_is Dpi100 print.Dpi300 = inl (omega arith)
-size_is Dpi100 print.Dpi600 = inr (inl refl)
-size_is Dpi150 print.Dpi300 = inl (omega arith)
-size_is Dpi150 print.Dpi600 = inl (omega arith)
-size_is Dpi200 print.Dpi300 = inl (omega arith)
-size_is Dpi200 print.Dpi600 = inl (omega arith)
-size_is Dpi300 print.Dpi300 = inl (omega arith)
-size_is Dpi300 print.Dpi600 = inl (omega arith)
-size_is Dpi600 print.Dpi300 = inl (omega arith)
-size_is Dpi600 print.Dpi600 = inl (omega arith)
+size_fits rows page = grind arith
 
 -- positions that are so close lie on lines so close
 lines_apart : (page : Resolution) (h a b l : ℕ) → min a l ≤ b → b ≤ a + h →
     (min (a / positions_per_dot page) (l / positions_per_dot page) ≤ b / positions_per_dot page)
     × (b / positions_per_dot page ≤ a / positions_per_dot page + (h + (positions_per_dot page - 1)) / positions_per_dot page)
-lines_apart print.Dpi300 h a b l least most = (omega (arith, least, most), omega (arith, least, most))
-lines_apart print.Dpi600 h a b l least most = (omega (arith, least, most), omega (arith, least, most))
+lines_apart page h a b l least most = grind arith
 
 -- ---- a move down
 
@@ -99,29 +53,22 @@ below_edge (negsuc n) = 0
 
 -- it is the position, or the position lies above the edge
 pub below_edge_is : (z : ℤ) → ((int_le (pos 0) z ≡ true) × (z ≡ pos (below_edge z))) ⊎ ((int_lt z (pos 0) ≡ true) × (below_edge z ≡ 0))
-below_edge_is (pos n) = inl (grind (arith, ints), refl)
-below_edge_is (negsuc n) = inr (grind (arith, ints), refl)
+below_edge_is z = grind arith
 
 -- a move down goes no further than its distance, and up no further than to the lower edge of the logical page
 pub moved_edge : (y : ℤ) (h : ℕ) (page : LogicalPage) →
     (min (below_edge (y +ℤ pos page.top_margin)) page.length ≤ below_edge (nearest_y (y +ℤ pos h) page +ℤ pos page.top_margin))
     × (below_edge (nearest_y (y +ℤ pos h) page +ℤ pos page.top_margin) ≤ below_edge (y +ℤ pos page.top_margin) + h)
-moved_edge y h page =
-    let before = below_edge_is (y +ℤ pos page.top_margin) in
-    let after = below_edge_is (nearest_y (y +ℤ pos h) page +ℤ pos page.top_margin) in
-    (grind (arith, ints), grind (arith, ints))
+moved_edge y h page = search (rules, below_edge_is)
 
 -- ---- rows one below the other
 
 -- the first line of the frame that is covered from a position on, and how many there are
 pub first_line : (y : ℤ) (page : Resolution) (size : ℕ) → (lines_below (dot_of y page) size).first ≡ below_edge y / positions_per_dot page
-first_line (pos n) page size = refl
-first_line (negsuc n) print.Dpi300 size = refl
-first_line (negsuc n) print.Dpi600 size = refl
+first_line y page size = grind arith
 
 pub no_more_lines : (line : ℤ) (size : ℕ) → (lines_below line size).count ≤ size
-no_more_lines (pos n) size = omega arith
-no_more_lines (negsuc n) size = omega arith
+no_more_lines line size = grind arith
 
 -- one of them, as a drawing is set up for it
 pub row_ready : (setup : RowSetup) (page : Layout) (drawing : Drawing) (y : ℤ) (lines : FrameLines) → IsSetUp setup page drawing → lines ≡ lines_at setup y → RowsReady setup page y 1 →
@@ -137,16 +84,7 @@ row_ready setup page drawing y lines is here ready some =
 
 -- fewer of them
 pub rows_ready-fewer : (setup : RowSetup) (page : Layout) (y : ℤ) (m n : ℕ) → m ≤ n → RowsReady setup page y n → RowsReady setup page y m
-rows_ready-fewer setup page y m n fewer ready =
-    let less : m * lines_of_row setup ≤ n * lines_of_row setup = mul-le-mul_right (lines_of_row setup) fewer in
-    record {
-      first = ready.first;
-      lines = ready.lines;
-      ready = ready.ready;
-      begins = ready.begins;
-      begins_last = ready.begins_last;
-      ends = omega (arith, less, ready.ends);
-    }
+rows_ready-fewer setup page y m n fewer ready = grind arith
 
 -- rows below the first
 pub rows_ready-moved : (setup : RowSetup) (page : Layout) (y : ℤ) (n : ℕ) → RowsReady setup page y (suc n) →
@@ -182,9 +120,7 @@ rows_ready-next setup brush page d (Some row) n ready = behind (takes_row setup.
 -- rows behind a run
 pub rows_ready-after : (setup : RowSetup) (brush : Brush) (page : Layout) (d : Drawn) (item : Item) (n m k : ℕ) → k ≡ n + m → RowsReady setup page d.cursor.y k →
     RowsReady setup page (with_items setup.environment setup.settings brush (replicate n item) d).cursor.y m
-rows_ready-after setup brush page d item zero m k is ready =
-    let none : k ≡ m = omega (arith, is) in
-    subst (RowsReady setup page d.cursor.y) none ready
+rows_ready-after setup brush page d item zero m k is ready = grind arith
 rows_ready-after setup brush page d item (suc n) m k is ready =
     let more : k ≡ suc (n + m) = omega (arith, is) in
     rows_ready-after setup brush page (with_item setup.environment setup.settings brush d item) item n m (n + m) refl
@@ -205,13 +141,7 @@ rows_ready-made setup page y rows count first lines most from small long ready =
       begins = omega (arith, from);
       begins_last = omega (arith, from);
       ends = elim (cases_lt longest_side count) [
-        | inl many ↦
-            let all : rows ≡ longest_side = omega (arith, most, many) in
-            let product : rows ≤ rows * s = le-mul_of_pos_right rows some in
-            omega (arith, from, small, long, product, all)
-        | inr few ↦
-            let same : rows ≡ count = omega (arith, most, few) in
-            let product : rows * s ≡ count * s = ap (λ n. n * s) same in
-            omega (arith, from, long, product)
+        | inl many ↦ omega (arith, from, small, long, le-mul_of_pos_right rows some, most, many)
+        | inr few ↦ grind (arith, from, long, most, few)
       ];
     }

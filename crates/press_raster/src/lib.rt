@@ -8,4 +8,4 @@ mod settings;
 mod widening;
 
 pub use raster::{Raster, RasterPosition, RowPlace};
-pub use settings::{RasterResolution, RasterSettings, RowCoding};
+pub use settings::{RasterResolution, RasterSettings, RowCoding, side_of};

@@ -36,7 +36,9 @@ const RASTER_RESOLUTIONS: [RasterResolution; 6] = [
 
 impl RasterResolution {
     /// The resolution of so many dots per inch, where there is one, and a dot of it is whole dots of a page.
-    fn of_number(print: Resolution, number: i64) -> Option<Self>
+    ///
+    /// Source: PCL 5 Printer Language Technical Reference Manual, Raster Graphics, Raster Graphics Resolution command.
+    pub fn of_number(print: Resolution, number: i64) -> Option<Self>
         ensures { result ≡ resolution_of print number }
     {
         RASTER_RESOLUTIONS.iter().copied().find(|resolution| resolution.is(number)
@@ -110,7 +112,9 @@ pub enum RowCoding {
 
 impl RowCoding {
     /// What data stands for by a number: 0 to 3, or 5.
-    fn of_number(number: i64) -> Option<Self>
+    ///
+    /// Source: PCL 5 Printer Language Technical Reference Manual, Raster Graphics, Set Compression Method command.
+    pub fn of_number(number: i64) -> Option<Self>
         ensures { result ≡ coding_of number }
     {
         match number {
@@ -136,7 +140,9 @@ pub struct RasterSettings {
 }
 
 /// A side of a raster picture, in its dots: at least one.
-fn side_of(value: Value) -> Option<u16>
+///
+/// Source: PCL 5 Printer Language Technical Reference Manual, Raster Graphics, Raster Width and Raster Height commands.
+pub fn side_of(value: Value) -> Option<u16>
     ensures { result ≡ side_of (whole_part value.tenthousandths) }
 {
     let number = value.whole();

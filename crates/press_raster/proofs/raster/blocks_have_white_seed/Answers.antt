@@ -1,6 +1,4 @@
-use Rattle.std.proofs.Common.{◌∙◌, ◌++◌, Some, ap, sym, is_none}
-use Rattle.std.specs.List.{list_any}
-use Rattle.press_rows.specs.Blocks.{items_of_run}
+use Rattle.std.proofs.Common.{arith}
 use Rattle.press_raster.proofs.DrawingLemmas.{none_white-run}
 use Rattle.press_raster.proofs.raster.blocks_have_white_seed.Goals as goal
 
@@ -8,5 +6,4 @@ pub loop-run-preserved : goal.loop-run-preserved
 loop-run-preserved c =
     let run = c.in_default-run in
     let others = c.next_run.new.self in
-    sym (ap (list_any is_none) (c.in-Some.ensures.prefix ∙ ap (λ run. items_of_run (Some run) ++ others) run.is) ∙ none_white-run run.field-2 (run.field-0, run.field-1.now) others)
-    ∙ c.loop-run.invariant
+    grind (arith, c.in-Some.ensures.prefix, run.is, none_white-run run.field-2 (run.field-0, run.field-1.now) others, c.loop-run.invariant)

@@ -1,20 +1,17 @@
-use Rattle.std.proofs.Common.{◌≡◌, ◌∙◌, length, ap, sym, subst}
+use Rattle.press_bits.proofs.MarkLemmas.{height-painted}
+use Rattle.press_bits.proofs.MarkLemmas.{width-painted}
+use Rattle.std.proofs.Common.{arith}
+use Rattle.std.proofs.Common.{◌≡◌, ◌∙◌, length, ap, sym}
 use Rattle.std.proofs.lemmas.Bool.{true≢false}
 use Rattle.std.proofs.lemmas.List.{with_items_is}
 use Rattle.press_bits.specs.Lines.{bytes_per_line}
 use Rattle.press_rows.specs.Row.{raster_row}
 use Rattle.press_raster.specs.declared.drawing.Drawing.{Drawing}
 use Rattle.press_raster.specs.Drawing.{layout}
-use Rattle.press_raster.specs.Widening.{IsDotSize}
 use Rattle.press_raster.specs.declared.drawing.RowSetup.{RowSetup}
-use Rattle.press_raster.proofs.DrawingLemmas.{layout-painted, row_drawn}
-use Rattle.press_raster.proofs.RowsReadyLemmas.{row_ready, size_is}
+use Rattle.press_raster.proofs.DrawingLemmas.{row_drawn}
+use Rattle.press_raster.proofs.RowsReadyLemmas.{row_ready}
 use Rattle.press_raster.proofs.drawing.Drawing.draw_row.Goals as goal
-
-pub paint_across-requires-clause-size : goal.paint_across-requires-clause-size
-paint_across-requires-clause-size c =
-    let setup = c.args.setup.now in
-    subst IsDotSize (sym (ap (λ (s : RowSetup). s.across.size) c.requires.same)) (size_is setup.settings.resolution setup.environment.page_setup.resolution)
 
 pub returns-in_err-painted-clause-takes_none : goal.returns-in_err-painted-clause-takes_none
 returns-in_err-painted-clause-takes_none c = λ ready.
@@ -28,8 +25,7 @@ returns-in_err-painted-clause-layout c = λ ready.
 
 pub returns-clause-layout : goal.returns-clause-layout
 returns-clause-layout c = λ ready.
-    layout-painted c.args.frame.now c.paint_across.new.frame _ c.in_ok-painted.ensures.painted
-    (c.paint_across.ensures.ready (row_ready c.args.setup.now (layout c.args.frame.now) c.args.self.now c.args.cursor.now.y c.lines-lines.result c.requires c.lines-lines.ensures ready))
+    grind (arith, width-painted, height-painted, c.in_ok-painted.ensures.painted, c.paint_across.ensures.ready (row_ready c.args.setup.now (layout c.args.frame.now) c.args.self.now c.args.cursor.now.y c.lines-lines.result c.requires c.lines-lines.ensures ready))
 
 pub returns-clause-item : goal.returns-clause-item
 returns-clause-item c =

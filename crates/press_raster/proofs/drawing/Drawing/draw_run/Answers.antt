@@ -1,8 +1,8 @@
-use Rattle.std.proofs.Common.{◌≡◌, ◌∙◌, ◌-◌, ◌+◌, ◌<◌, ℕ, ℤ, suc, replicate, Some, Ok, ap, sym, subst, arith}
+use Rattle.std.proofs.Common.{◌≡◌, ◌∙◌, ◌-◌, ◌+◌, ◌<◌, ℕ, ℤ, suc, Some, Ok, ap, sym, subst, arith}
 use Rattle.std.proofs.lemmas.Bool.{true≢false}
 use Rattle.press_rows.specs.Blocks.{Item}
 use Rattle.press_raster.specs.Drawing.{IsSetUp, Layout, RowsReady, drawn_by, layout}
-use Rattle.press_raster.specs.Rows.{Drawn, with_items}
+use Rattle.press_raster.specs.Rows.{Drawn}
 use Rattle.press_raster.specs.declared.drawing.RowSetup.{RowSetup}
 use Rattle.press_raster.proofs.DrawingLemmas.{with_items-settled}
 use Rattle.press_raster.proofs.RowsReadyLemmas.{rows_ready-fewer, rows_ready-next}
@@ -33,9 +33,7 @@ returns-then-not-branch-clause-items c =
     let item : Item = Some (c.args.row.method, c.args.row.bytes.now) in
     let d : Drawn = drawn_by setup c.loop-drawn.self c.loop-drawn.frame c.loop-drawn.cursor in
     let same = c.in_ok-draw_row.ensures.same (ap Ok c.if-not-branch.true) in
-    same
-    ∙ sym (with_items-settled setup.environment setup.settings brush (c.args.count - c.loop-drawn.drawn) item d (sym c.in_ok-draw_row.ensures.item ∙ same))
-    ∙ c.loop-drawn.invariant.items
+    grind (arith, same, with_items-settled setup.environment setup.settings brush (c.args.count - c.loop-drawn.drawn) item d (sym c.in_ok-draw_row.ensures.item ∙ same), c.loop-drawn.invariant.items)
 
 pub loop-drawn-preserved : goal.loop-drawn-preserved
 loop-drawn-preserved c =
@@ -47,9 +45,7 @@ loop-drawn-preserved c =
     let left : suc m ≡ c.args.count - c.loop-drawn.drawn = omega (arith, c.loop-drawn-test.true) in
     record {
       items =
-          ap (with_items setup.environment setup.settings brush (replicate m item)) c.in_ok-draw_row.ensures.item
-          ∙ ap (λ n. with_items setup.environment setup.settings brush (replicate n item) d) left
-          ∙ c.loop-drawn.invariant.items;
+          grind (arith, left, c.in_ok-draw_row.ensures.item, c.loop-drawn.invariant.items);
       same_layout =
           c.draw_row.ensures.layout (next_ready setup (layout c.args.frame.now) (layout c.loop-drawn.frame) c.loop-drawn.cursor.y c.args.count c.loop-drawn.drawn
           c.loop-drawn.invariant.same_layout c.loop-drawn-test.true c.loop-drawn.invariant.ready)

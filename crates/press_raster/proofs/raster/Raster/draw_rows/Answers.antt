@@ -1,4 +1,4 @@
-use Rattle.std.proofs.Common.{◌≡◌, ◌∙◌, ◌&&◌, Bool, true, false, Some, is_some, ap, sym, refl}
+use Rattle.std.proofs.Common.{arith, ◌≡◌, ◌∙◌, ◌&&◌, Bool, true, false, Some, is_some, ap, sym, refl}
 use Rattle.std.specs.List.{list_any}
 use Rattle.std.proofs.lemmas.Bool.{true≢false}
 use Rattle.press_bits.specs.Bands.{BandedPage}
@@ -6,9 +6,7 @@ use Rattle.press_bits.specs.Lines.{bytes_per_line}
 use Rattle.press_bits.specs.Page.{Page}
 use Rattle.press_canvas.specs.Turned.{page_of_frame}
 use Rattle.press_rows.specs.Row.{fitted}
-use Rattle.press_raster.specs.Drawing.{drawn_by}
 use Rattle.press_raster.specs.Graphics.{graphics, takes_row}
-use Rattle.press_raster.specs.Rows.{drawn, with_items}
 use Rattle.press_raster.specs.Settings.{items_of}
 use Rattle.press_raster.specs.declared.drawing.RowSetup.{RowSetup}
 use Rattle.press_raster.proofs.DrawingLemmas.{drawn-fitted}
@@ -33,15 +31,14 @@ returns-clause-rows c =
     let on : graphics (Some position) seed ≡ c.args.self.now = ap (λ place. graphics place seed) (sym c.in-Some.is) ∙ c.self.view_is in
     let taken = second (takes_row settings c.args.self.now) (list_any is_some (items_of settings.coding c.args.data.now)) c.requires in
     let lies = ap (λ (s : RowSetup). s.environment.page_setup.orientation) c.new-setup.ensures.setup in
-    (λ i. drawn (graphics (Some c.draw.new.self.position) (c.swap.ensures.x_after i).items) (page_of_frame (sym lies i) c.draw.new.frame.page) c.draw.new.cursor)
-    ∙ c.in_ok-draw.ensures.items
-    ∙ ap (λ coding.
-    with_items setup.environment setup.settings brush (items_of coding c.args.data.now)
-    (drawn_by setup c.begin.new.self bands cursor))
-    (ap (λ (s : RowSetup). s.settings.coding) c.new-setup.ensures.setup)
-    ∙ drawn-fitted setup environment settings brush bands.page.width position seed c.begin.new.self bands page cursor (items_of settings.coding c.args.data.now)
-    c.new-setup.ensures.setup c.in_ok-begin.ensures.position
-    (c.in_ok-begin.ensures.seed ∙ ap (fitted (bytes_per_line setup.dots)) c.deref.ensures.value)
-    (ap (page_of_frame o) c.bands-bands.ensures.value)
-    (ap (takes_row settings) on ∙ taken.0) taken.1
-    ∙ ap (λ g. with_items environment settings brush (items_of settings.coding c.args.data.now) (drawn g page cursor)) on
+    grind (
+      arith,
+      lies,
+      on,
+      c.swap.ensures.x_after,
+      c.in_ok-draw.ensures.items,
+      c.new-setup.ensures.setup,
+      drawn-fitted setup environment settings brush bands.page.width position seed c.begin.new.self bands page cursor (items_of settings.coding c.args.data.now)
+          c.new-setup.ensures.setup c.in_ok-begin.ensures.position (c.in_ok-begin.ensures.seed ∙ ap (fitted (bytes_per_line setup.dots)) c.deref.ensures.value)
+          (ap (page_of_frame o) c.bands-bands.ensures.value) (ap (takes_row settings) on ∙ taken.0) taken.1,
+    )
