@@ -1,6 +1,6 @@
 -- An input is a file, or one refusal fits it.
-use Rattle.std.proofs.Common.{◌≡◌, ℕ, ◌*◌, ◌<◌, ◌≤◌, min, true, false, List, [], ◌∷◌, ◌++◌, length, Some, refl, sym, ap, ◌∙◌, arith, subst, inl, inr, ◌⊎◌, append_assoc, append-nil, length-append}
-use Rattle.std.specs.Prelude.{option_and_then}
+use Rattle.std.proofs.lemmas.Bool.Decides.{nat_tests}
+use Rattle.std.proofs.Common.{◌≡◌, ℕ, ◌*◌, ◌<◌, ◌≤◌, min, true, List, [], ◌∷◌, ◌++◌, length, Some, refl, sym, ap, ◌∙◌, arith, subst, inl, inr, ◌⊎◌, append_assoc, append-nil, length-append}
 use Rattle.press_bits.specs.Page.{Page, is_page_size}
 use Rattle.press_bits.specs.Lines.{bytes_per_line}
 use Rattle.press_bits.specs.DotRows.{page_of_rows}
@@ -10,7 +10,7 @@ use Rattle.press_pbm.specs.Reading.{past_longest}
 use Rattle.press_pbm.specs.Answer.{PageOf, NoHeader, BadHeader, CutShort, HasOneAnswer}
 use Rattle.press_pbm.specs.declared.place.Place.TheVariants as at
 use Rattle.press_pbm.proofs.HeaderLemmas.{run, run-append, run-spelling, end_sizes}
-use Rattle.press_pbm.proofs.FileLemmas.{cut_size, not_cut}
+use Rattle.press_pbm.proofs.FileLemmas.{not_cut}
 
 no_bytes : (bytes : List ℕ) → length bytes ≤ 0 → bytes ≡ []
 no_bytes [] none = refl
@@ -20,13 +20,7 @@ no_bytes (byte ∷ bytes) none = absurd (omega arith)
 compare : (a b x y : List ℕ) → a ++ x ≡ b ++ y → ((c : List ℕ) × (a ≡ b ++ c) × (y ≡ c ++ x)) ⊎ ((c : List ℕ) × (b ≡ a ++ c) × (x ≡ c ++ y))
 compare [] b x y same = inr (b, refl, same)
 compare (h ∷ a) [] x y same = inl (h ∷ a, refl, sym same)
-compare (h ∷ a) (k ∷ b) x y same =
-    let head : h ≡ k = cc in
-    let tail : a ++ x ≡ b ++ y = cc in
-    elim (compare a b x y tail) [
-      | inl (c, longer, rest) ↦ inl (c, (λ i. head i ∷ longer i), rest)
-      | inr (c, longer, rest) ↦ inr (c, (λ i. sym head i ∷ longer i), rest)
-    ]
+compare (h ∷ a) (k ∷ b) x y same = grind (arith, compare a b x y (cc))
 
 runs : (bytes : List ℕ) (parts : HeaderParts) → AreHeaderParts parts → bytes ≡ header_spelling parts
     → run at.Start bytes ≡ Some (at.End (min (width_of parts) past_longest) (min (height_of parts) past_longest))
@@ -40,7 +34,7 @@ nothing_behind width height (byte ∷ more) w h is = cc
 no_more : (bytes more : List ℕ) → IsHeader bytes → IsHeader (bytes ++ more) → more ≡ []
 no_more bytes more (parts, are, is) (longer, long_are, long_is) =
     nothing_behind (min (width_of parts) past_longest) (min (height_of parts) past_longest) more (min (width_of longer) past_longest) (min (height_of longer) past_longest)
-    (ap (option_and_then (λ next. run next more)) (sym (runs bytes parts are is)) ∙ sym (run-append at.Start bytes more) ∙ runs (bytes ++ more) longer long_are long_is)
+    (grind (arith, runs bytes parts are is, run-append at.Start bytes more, runs (bytes ++ more) longer long_are long_is))
 
 -- an input begins with one header
 same_header : (a b x y : List ℕ) → IsHeader a → IsHeader b → a ++ x ≡ b ++ y → (a ≡ b) × (x ≡ y)
@@ -57,7 +51,7 @@ same_size parts others are others_are same =
     let ends =
     end_sizes (min (width_of parts) past_longest) (min (height_of parts) past_longest) (min (width_of others) past_longest)
     (min (height_of others) past_longest) (sym (run-spelling parts are) ∙ runs (header_spelling parts) others others_are same) in
-    sym (cut_size (width_of parts) (height_of parts)) ∙ (λ i. is_page_size (ends.0 i) (ends.1 i)) ∙ cut_size (width_of others) (height_of others)
+    grind (arith, nat_tests, ends.0, ends.1)
 
 same_sides : (parts others : HeaderParts) → AreHeaderParts parts → AreHeaderParts others → header_spelling parts ≡ header_spelling others
     → is_page_size (width_of parts) (height_of parts) ≡ true → (width_of parts ≡ width_of others) × (height_of parts ≡ height_of others)
@@ -65,9 +59,7 @@ same_sides parts others are others_are same size =
     let ends =
     end_sizes (min (width_of parts) past_longest) (min (height_of parts) past_longest) (min (width_of others) past_longest)
     (min (height_of others) past_longest) (sym (run-spelling parts are) ∙ runs (header_spelling parts) others others_are same) in
-    let one = not_cut (width_of parts) (height_of parts) size in
-    let other = not_cut (width_of others) (height_of others) (sym (same_size parts others are others_are same) ∙ size) in
-    (sym one.0 ∙ ends.0 ∙ other.0, sym one.1 ∙ ends.1 ∙ other.1)
+    grind (arith, not_cut (width_of parts) (height_of parts) size, not_cut (width_of others) (height_of others), same_size parts others are others_are same, ends.0, ends.1)
 
 -- ---- two answers
 
@@ -104,15 +96,12 @@ prefix_ends header x input is begins (more, some, whole) =
     let gone = no_more header (x ++ more) is (subst IsHeader all whole) in
     omega (arith, ap length gone, length-append x more)
 
-differ : true ≡ false → ⊥
-differ same = cc
-
 -- a header of a bad size begins no file
 bad_or_file : (bad : List ℕ) (x : List ℕ) (page : Page) (file y : List ℕ) → IsBadHeader bad → IsFile page file → bad ++ x ≡ file ++ y → ⊥
 bad_or_file bad x page file y is whole same =
     let begins : bad ++ x ≡ header_spelling whole.parts ++ (whole.rows ++ y) = same ∙ ap (λ l. l ++ y) whole.spelled ∙ append_assoc (header_spelling whole.parts) whole.rows y in
     let one = same_header bad (header_spelling whole.parts) x (whole.rows ++ y) (is.parts, is.header, is.spelled) (whole.parts, whole.header, refl) begins in
-    differ (sym whole.size ∙ sym (same_size is.parts whole.parts is.header whole.header (sym is.spelled ∙ one.0)) ∙ is.size)
+    cc (sym whole.size ∙ sym (same_size is.parts whole.parts is.header whole.header (sym is.spelled ∙ one.0)) ∙ is.size)
 
 -- two files at the front of an input have one header, and rows of one length
 same_rows : (page other : Page) (file more x y : List ℕ) (one : IsFile page file) (two : IsFile other more) → file ++ x ≡ more ++ y →
@@ -130,9 +119,7 @@ same_length [] [] x y same long = refl
 same_length [] (k ∷ b) x y same long = absurd (omega arith)
 same_length (h ∷ a) [] x y same long = absurd (omega arith)
 same_length (h ∷ a) (k ∷ b) x y same long =
-    let head : h ≡ k = cc in
-    let tail : a ++ x ≡ b ++ y = cc in
-    λ i. head i ∷ same_length a b x y tail (omega arith) i
+    grind (arith, same_length a b x y (cc))
 
 same_file : (page other : Page) (file more x y : List ℕ) → IsFile page file → IsFile other more → file ++ x ≡ more ++ y → PageOf page file ≡ PageOf other more
 same_file page other file more x y one two same =

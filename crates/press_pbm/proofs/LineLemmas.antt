@@ -1,13 +1,13 @@
 -- The bytes of a line, from its dots.
-use Rattle.std.proofs.Common.{inl, inr, ◌≡◌, ℕ, ◌+◌, ◌-◌, ◌*◌, ◌/◌, ◌%◌, ◌<◌, ◌≤◌, ◌⊎◌, min, zero, suc, Bool, true, false, List}
-use Rattle.std.proofs.Common.{◌++◌, take, drop, get_or, map, refl, sym, ap, ◌∙◌, arith, subst, append_assoc, take-append-drop}
+use Rattle.std.proofs.Common.{inl, inr, ◌≡◌, ℕ, ◌+◌, ◌-◌, ◌*◌, ◌/◌, ◌<◌, ◌≤◌, ◌⊎◌, min, zero, suc, Bool, List, rules}
+use Rattle.std.proofs.Common.{◌++◌, take, drop, get_or, map, sym, ap, ◌∙◌, arith, subst, append_assoc, take-append-drop}
 use Rattle.std.specs.Prelude.{nat_eq, if◌then◌else◌}
 use Rattle.std.specs.Int.{bit_at}
 use Rattle.std.specs.List.{fold, flat_map, range_with_len}
-use Rattle.std.proofs.lemmas.List.{same_lists, get_or_default, nil_from_length, length-take, length-drop, get_or-take, get_or-drop, get_or_past, drop-drop}
+use Rattle.std.proofs.lemmas.List.{same_lists, get_or_default, nil_from_length, length-drop, get_or-take, get_or-drop, get_or_past, drop-drop}
 use Rattle.std.proofs.lemmas.List.FromFn.{length-map-range_with_len, get_or-map-range_with_len}
 use Rattle.std.proofs.lemmas.Bool.{cases_lt}
-use Rattle.std.proofs.lemmas.Nat.Bits.{bit_at-suc, bit_at_lowest, bit_at-lt, same_from_bits_below}
+use Rattle.std.proofs.lemmas.Nat.Bits.{bit_at-suc, bit_at_lowest}
 use Rattle.press_bits.specs.Page.{Page, black_at, HasNoDotOutside}
 use Rattle.press_bits.specs.Mark.{row_dot, byte_dot}
 use Rattle.press_bits.specs.Lines.{bytes_per_line, ArePageLines, IsPageLine}
@@ -16,10 +16,6 @@ use Rattle.press_pbm.specs.Spelling.{byte_of_dots, line_bytes}
 -- a dot as a binary digit
 abbrev pub bit : Bool → ℕ
 bit dot = if dot then 1 else 0
-
-pub bit-le : (dot : Bool) → bit dot ≤ 1
-bit-le true = omega arith
-bit-le false = omega arith
 
 -- n more dots, from dot a on, behind the bits of a number
 abbrev with_dots : (ℕ → Bool) → ℕ → List ℕ → ℕ
@@ -35,82 +31,47 @@ bit_at-higher_more n b i small = let half : (2 * n + b) / 2 ≡ n = omega arith 
 with_dots-above : (dots : ℕ → Bool) (number a n i j : ℕ) → i ≡ n + j → bit_at (with_dots dots number (range_with_len a n)) i ≡ bit_at number j
 with_dots-above dots number a zero i j is = ap (bit_at number) (omega arith)
 with_dots-above dots number a (suc n) i j is =
-    with_dots-above dots (2 * number + bit (dots a)) (a + 1) n i (suc j) (omega arith) ∙ bit_at-higher_more number (bit (dots a)) j (bit-le (dots a))
+    grind (arith, bit_at-higher_more, with_dots-above dots (2 * number + bit (dots a)) (a + 1) n i (suc j) (omega arith))
 
 -- the bits of the dots, the last one lowest
 with_dots-bits : (dots : ℕ → Bool) (number a n i j : ℕ) → i + j + 1 ≡ a + n → a ≤ j → bit_at (with_dots dots number (range_with_len a n)) i ≡ bit (dots j)
 with_dots-bits dots number a zero i j is reached = absurd (omega arith)
 with_dots-bits dots number a (suc n) i j is reached =
-    elim (cases_lt a j) [
-      | inl later ↦ with_dots-bits dots (2 * number + bit (dots a)) (a + 1) n i j (omega arith) (omega arith)
-      | inr first ↦
-          with_dots-above dots (2 * number + bit (dots a)) (a + 1) n i 0 (omega arith)
-          ∙ bit_at-lowest_more number (bit (dots a)) (bit-le (dots a))
-          ∙ ap (λ k. bit (dots k)) (omega arith)
-    ]
-
-eight_small : (a b c d e f g h : ℕ) → a ≤ 1 → b ≤ 1 → c ≤ 1 → d ≤ 1 → e ≤ 1 → f ≤ 1 → g ≤ 1 → h ≤ 1 →
-    2 * (2 * (2 * (2 * (2 * (2 * (2 * (2 * 0 + a) + b) + c) + d) + e) + f) + g) + h < 256
-eight_small a b c d e f g h a1 b1 c1 d1 e1 f1 g1 h1 = omega arith
-
-pub byte_of_dots-lt : (dots : ℕ → Bool) → byte_of_dots dots < 256
-unfolding byte_of_dots
-byte_of_dots-lt dots =
-    eight_small (bit (dots 0)) (bit (dots 1)) (bit (dots 2)) (bit (dots 3)) (bit (dots 4)) (bit (dots 5)) (bit (dots 6)) (bit (dots 7))
-    (bit-le (dots 0)) (bit-le (dots 1)) (bit-le (dots 2)) (bit-le (dots 3)) (bit-le (dots 4)) (bit-le (dots 5)) (bit-le (dots 6)) (bit-le (dots 7))
-
-test_of_bit : (dot : Bool) → nat_eq (bit dot) 1 ≡ dot
-test_of_bit true = refl
-test_of_bit false = refl
+    grind (
+      arith,
+      with_dots-bits dots (2 * number + bit (dots a)) (a + 1) n i j,
+      with_dots-above dots (2 * number + bit (dots a)) (a + 1) n i 0,
+      bit_at-lowest_more number (bit (dots a)),
+    )
 
 -- the dots of a byte that was made of dots
 pub byte_dot-byte_of_dots : (dots : ℕ → Bool) (j : ℕ) → j < 8 → byte_dot (byte_of_dots dots) j ≡ dots j
 unfolding byte_of_dots byte_dot
-byte_dot-byte_of_dots dots j within = ap (λ n. nat_eq n 1) (with_dots-bits dots 0 0 8 (7 - j) j (omega arith) (omega arith)) ∙ test_of_bit (dots j)
+byte_dot-byte_of_dots dots j within = ap (λ n. nat_eq n 1) (with_dots-bits dots 0 0 8 (7 - j) j (omega arith) (omega arith)) ∙ grind arith
 
 bit_of_test : (n : ℕ) → n < 2 → n ≡ bit (nat_eq n 1)
-bit_of_test zero small = refl
-bit_of_test (suc zero) small = refl
-bit_of_test (suc (suc n)) small = absurd (omega arith)
+bit_of_test n small = grind arith
 
 -- a byte is made of its dots
 byte_of_dots-byte_dot : (byte : ℕ) (dots : ℕ → Bool) → byte < 256 → ((j : ℕ) → j < 8 → byte_dot byte j ≡ dots j) → byte ≡ byte_of_dots dots
 unfolding byte_of_dots byte_dot
-byte_of_dots-byte_dot byte dots small same =
-    same_from_bits_below 8 byte (byte_of_dots dots) small (byte_of_dots-lt dots)
-    (λ i within.
-    bit_of_test (bit_at byte i) (bit_at-lt byte i)
-    ∙ ap (λ k. bit (nat_eq (bit_at byte k) 1)) (place i within)
-    ∙ ap bit (same (7 - i) (omega arith))
-    ∙ sym (with_dots-bits dots 0 0 8 i (7 - i) (omega arith) (omega arith)))
-  where
-    place : (i : ℕ) → i < 8 → i ≡ 7 - (7 - i)
-    place i within = omega arith
+byte_of_dots-byte_dot byte dots small same = grind (arith, bit_of_test)
 
 row_dot-byte : (bytes : List ℕ) (i j : ℕ) → j < 8 → byte_dot (get_or bytes i 0) j ≡ row_dot bytes (8 * i + j)
 unfolding row_dot
-row_dot-byte bytes i j within =
-    let index : i ≡ (8 * i + j) / 8 = omega arith in
-    let place : j ≡ (8 * i + j) % 8 = omega arith in
-    λ k. byte_dot (get_or bytes (index k) 0) (place k)
-
--- a page without a dot outside is white right of its last column
-white_right : (page : Page) (x y : ℕ) → HasNoDotOutside page → page.width ≤ x → false ≡ black_at page x y
-white_right page x y none right = white (black_at page x y) (none.inside x y) where
-  white : (b : Bool) → (b ≡ true → (x < page.width) × (y < page.height)) → false ≡ b
-  white true inside = let i : (x < page.width) × (y < page.height) = inside refl in absurd (omega arith)
-  white false inside = refl
+row_dot-byte bytes i j within = search rules
 
 -- a line of bytes is what the page's dots make
 pub IsPageLine-line_bytes : (page : Page) (y : ℕ) (bytes : List ℕ) → HasNoDotOutside page → ((i : ℕ) → get_or bytes i 0 < 256) → IsPageLine page y bytes → bytes ≡ line_bytes page y
 unfolding line_bytes
 IsPageLine-line_bytes page y bytes none small is =
     same_lists bytes (map byte (range_with_len 0 n)) (is.long ∙ sym (length-map-range_with_len byte 0 n))
-    (λ i d within.
-    get_or_default bytes i d 0 within
-    ∙ byte_of_dots-byte_dot (get_or bytes i 0) (λ j. black_at page (8 * i + j) y) (small i)
-    (λ j inside. row_dot-byte bytes i j inside ∙ dot (8 * i + j))
-    ∙ sym (get_or-map-range_with_len byte 0 n i i d (subst (λ l. i < l) is.long within) (omega arith)))
+    (λ i d within. grind (
+      arith,
+      get_or_default bytes i d 0 within,
+      byte_of_dots-byte_dot (get_or bytes i 0) (λ j. black_at page (8 * i + j) y) (small i) (λ j inside. row_dot-byte bytes i j inside ∙ dot (8 * i + j)),
+      get_or-map-range_with_len byte 0 n i i d (subst (λ l. i < l) is.long within) (omega arith),
+    ))
   where
     n : ℕ
     n = bytes_per_line page.width
@@ -119,7 +80,7 @@ IsPageLine-line_bytes page y bytes none small is =
     byte i = byte_of_dots (λ j. black_at page (8 * i + j) y)
 
     dot : (x : ℕ) → row_dot bytes x ≡ black_at page x y
-    dot x = elim (cases_lt x page.width) [ inl left ↦ is.dots x left | inr right ↦ is.padding x right ∙ white_right page x y none right ]
+    dot x = elim (cases_lt x page.width) [ inl left ↦ is.dots x left | inr right ↦ is.padding x right ∙ search rules ]
 
 -- lines that stand one after the other are what the page's dots make
 pub ArePageLines-line_bytes : (page : Page) (count y : ℕ) (bytes : List ℕ) → HasNoDotOutside page → ((i : ℕ) → get_or bytes i 0 < 256)
@@ -147,18 +108,11 @@ ArePageLines-line_bytes page (suc count) y bytes none small are =
     more n b = omega arith
 
     small_prefix : (i : ℕ) → (i < bytes_per_line page.width) ⊎ (bytes_per_line page.width ≤ i) → get_or (take (bytes_per_line page.width) bytes) i 0 < 256
-    small_prefix i (inl before) = omega (arith, get_or-take (bytes_per_line page.width) bytes i 0 before, small i)
-    small_prefix i (inr past) = omega (arith, get_or_past (take (bytes_per_line page.width) bytes) i 0 (omega (arith, length-take (bytes_per_line page.width) bytes)))
+    small_prefix i h1 = grind (arith, get_or-take, get_or_past)
 
 -- some lines, and those below them
 lines_split : (line : ℕ → List ℕ) (count rest y : ℕ) → flat_map line (range_with_len y (count + rest)) ≡ flat_map line (range_with_len y count) ++ flat_map line (range_with_len (y + count) rest)
-lines_split line zero rest y = λ i. flat_map line (range_with_len (begin y i) (none rest i))
-  where
-    begin : (y : ℕ) → y ≡ y + 0
-    begin y = omega arith
-
-    none : (rest : ℕ) → 0 + rest ≡ rest
-    none rest = omega arith
+lines_split line zero rest y = search rules
 lines_split line (suc count) rest y =
     ap (λ n. flat_map line (range_with_len y n)) (more count rest)
     ∙ ap (λ l. line y ++ l) (lines_split line count rest (y + 1) ∙ ap (λ n. flat_map line (range_with_len (y + 1) count) ++ flat_map line (range_with_len n rest)) (next y count))
@@ -176,15 +130,4 @@ pub lines_grow : (line : ℕ → List ℕ) (all done bytes : List ℕ) (k height
 lines_grow line all done bytes k height below is split =
     let rest : List ℕ = flat_map line (range_with_len (64 * (k + 1)) (height - 64 * (k + 1))) in
     let whole : height - 64 * k ≡ min 64 (height - 64 * k) + (height - 64 * (k + 1)) = omega arith in
-    split
-    ∙ ap (λ n. done ++ flat_map line (range_with_len (64 * k) n)) whole
-    ∙ ap (λ l. done ++ l) (lines_split line (min 64 (height - 64 * k)) (height - 64 * (k + 1)) (64 * k)
-    ∙ (λ i. sym is i ++ behind (cases_lt (64 * (k + 1)) height) i))
-    ∙ sym (append_assoc done bytes rest)
-  where
-    behind : (64 * (k + 1) < height) ⊎ (height ≤ 64 * (k + 1)) →
-        flat_map line (range_with_len (64 * k + min 64 (height - 64 * k)) (height - 64 * (k + 1))) ≡ flat_map line (range_with_len (64 * (k + 1)) (height - 64 * (k + 1)))
-    behind (inl more) = let next : 64 * k + min 64 (height - 64 * k) ≡ 64 * (k + 1) = omega arith in ap (λ n. flat_map line (range_with_len n (height - 64 * (k + 1)))) next
-    behind (inr last) =
-        let none : height - 64 * (k + 1) ≡ 0 = omega arith in
-        ap (λ n. flat_map line (range_with_len (64 * k + min 64 (height - 64 * k)) n)) none ∙ sym (ap (λ n. flat_map line (range_with_len (64 * (k + 1)) n)) none)
+    grind (arith, whole, lines_split line (min 64 (height - 64 * k)) (height - 64 * (k + 1)) (64 * k), append_assoc done bytes rest)

@@ -1,5 +1,5 @@
 -- What is written is a P4 file.
-use Rattle.std.proofs.Common.{◌≡◌, ℕ, ◌+◌, ◌*◌, ◌/◌, ◌%◌, ◌^◌, ◌<◌, ◌≤◌, zero, suc, true, List, [], ◌∷◌, ◌++◌, length, refl, sym, ap, ◌∙◌, arith, length-append}
+use Rattle.std.proofs.Common.{◌≡◌, ℕ, ◌+◌, ◌*◌, ◌^◌, ◌<◌, ◌≤◌, zero, suc, true, List, [], ◌∷◌, ◌++◌, length, refl, sym, ap, ◌∙◌, arith, length-append}
 use Rattle.std.specs.Fmt.{decimal}
 use Rattle.std.specs.Char.{IsAsciiDigit, is_ascii_digit}
 use Rattle.std.specs.List.{AllByRecursion, flat_map, range_with_len}
@@ -9,7 +9,7 @@ use Rattle.std.proofs.lemmas.List.FromFn.{length-map-range_with_len, get_or-map-
 use Rattle.press_units.proofs.DecimalLemmas.{decimal-digits, number_of-decimal}
 use Rattle.press_units.proofs.FieldTest.{digit-from}
 use Rattle.press_bits.specs.Page.{Page, black_at, is_page_size, HasNoDotOutside}
-use Rattle.press_bits.specs.Mark.{row_dot, byte_dot}
+use Rattle.press_bits.specs.Mark.{row_dot}
 use Rattle.press_bits.specs.Lines.{bytes_per_line}
 use Rattle.press_bits.specs.DotRows.{page_of_rows}
 use Rattle.press_bits.proofs.PageLemmas.{page_where_itself, page_where_alike}
@@ -37,11 +37,7 @@ length-line_bytes page y = length-map-range_with_len (λ i. byte_of_dots (λ j. 
 -- the dots of a line
 pub row_dot-line_bytes : (page : Page) (y x : ℕ) → x < 8 * bytes_per_line page.width → row_dot (line_bytes page y) x ≡ black_at page x y
 unfolding row_dot line_bytes
-row_dot-line_bytes page y x within =
-    let place : 8 * (x / 8) + x % 8 ≡ x = omega arith in
-    ap (λ b. byte_dot b (x % 8)) (get_or-map-range_with_len (λ i. byte_of_dots (λ j. black_at page (8 * i + j) y)) 0 (bytes_per_line page.width) (x / 8) (x / 8) 0 (omega arith) (omega arith))
-    ∙ byte_dot-byte_of_dots (λ j. black_at page (8 * (x / 8) + j) y) (x % 8) (omega arith)
-    ∙ ap (λ k. black_at page k y) place
+row_dot-line_bytes page y x within = grind (arith, get_or-map-range_with_len, byte_dot-byte_of_dots)
 
 -- so many lines, from line `first` on
 length-lines : (page : Page) (first count : ℕ) → length (flat_map (line_bytes page) (range_with_len first count)) ≡ count * bytes_per_line page.width
@@ -52,14 +48,7 @@ length-lines page first (suc count) =
 row_dot-lines : (page : Page) (first count y x : ℕ) → y < count → x < 8 * bytes_per_line page.width →
     row_dot (flat_map (line_bytes page) (range_with_len first count)) (8 * (y * bytes_per_line page.width) + x) ≡ black_at page x (first + y)
 row_dot-lines page first zero y x inside within = absurd (omega arith)
-row_dot-lines page first (suc count) zero x inside within =
-    let n : ℕ = bytes_per_line page.width in
-    let place : 8 * (0 * n) + x ≡ x = omega arith in
-    let line : first ≡ first + 0 = omega arith in
-    ap (row_dot (line_bytes page first ++ flat_map (line_bytes page) (range_with_len (first + 1) count))) place
-    ∙ row_dot-prefix (line_bytes page first) (flat_map (line_bytes page) (range_with_len (first + 1) count)) x (omega (arith, length-line_bytes page first))
-    ∙ row_dot-line_bytes page first x within
-    ∙ ap (black_at page x) line
+row_dot-lines page first (suc count) zero x inside within = grind (arith, length-line_bytes, row_dot-line_bytes, row_dot-prefix)
 row_dot-lines page first (suc count) (suc y) x inside within =
     let n : ℕ = bytes_per_line page.width in
     let line : (first + 1) + y ≡ first + suc y = omega arith in

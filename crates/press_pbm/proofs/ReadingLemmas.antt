@@ -1,5 +1,5 @@
 -- What reading a header byte by byte answers.
-use Rattle.std.proofs.Common.{◌≡◌, ℕ, ◌+◌, ◌<◌, ◌≤◌, List, [], ◌∷◌, ◌++◌, length, get_or, Option, Some, Result, Err, IfErr, IsErrAnd, refl, sym, ap, ◌∙◌, arith, subst, ◌⊎◌, inl, inr, append-nil}
+use Rattle.std.proofs.Common.{◌≡◌, ℕ, ◌+◌, ◌<◌, ◌≤◌, List, [], ◌∷◌, ◌++◌, length, get_or, Option, Some, Result, Err, IfErr, IsErrAnd, refl, sym, ap, ◌∙◌, arith, subst, ◌⊎◌}
 use Rattle.std.proofs.lemmas.Result.{err_from_is_err_and}
 use Rattle.std.specs.Io.KnownBytes.{Consumes}
 use Rattle.std.proofs.KnownBytes.{Consumes-trans}
@@ -7,7 +7,6 @@ use Rattle.press_pbm.specs.Header.{BeginsHeader}
 use Rattle.press_pbm.specs.File.{Refused, IsNoHeader}
 use Rattle.press_pbm.specs.Reading.{StopsShort, ReadHeader, place_after, least_behind}
 use Rattle.press_pbm.specs.declared.fault.ReadPbmError.{ReadPbmError}
-use Rattle.press_pbm.specs.declared.fault.ReadPbmError.TheVariants.{NotPbm, BadSize, Truncated, ReadFault, NoMemory}
 use Rattle.press_pbm.specs.declared.place.Place.{Place}
 use Rattle.press_pbm.specs.declared.place.Place.TheVariants as at
 use Rattle.press_pbm.proofs.HeaderLemmas.{run, run-then, run-byte, cut_header, found}
@@ -21,16 +20,9 @@ no_byte : (bytes : List ℕ) → length bytes < 1 → bytes ≡ []
 no_byte [] none = refl
 no_byte (byte ∷ bytes) none = absurd (omega arith)
 
--- what holds unless a device failed
-pub or_else : {F A B : Type 0} → F ⊎ A → (A → B) → F ⊎ B
-or_else (inl f) then = inl f
-or_else (inr a) then = inr (then a)
-
 -- and a call later, where a device that failed stays so
 pub or_both : {E F A B C : Type 0} → (E → F) → E ⊎ A → F ⊎ B → (A → B → C) → F ⊎ C
-or_both stays (inl e) other then = inl (stays e)
-or_both stays (inr a) (inl f) then = inl f
-or_both stays (inr a) (inr b) then = inr (then a b)
+or_both stays h2 other then = grind arith
 
 -- what an exit by `?` answers
 pub passed_on : {X : Type 0} (result : Result X ReadPbmError) (error : ReadPbmError) (P : ReadPbmError → Type 0) → IsErrAnd result (λ e. e ≡ error) → P error → IfErr result P
@@ -44,13 +36,7 @@ one_more had middle left read buffer first one more = subst (λ l. Consumes had 
 -- the next byte was not read
 pub stopped_in_header : (error : ReadPbmError) (had middle left : Option (List ℕ)) (read : List ℕ) (place : Place) (wanted : ℕ) → Consumes had middle read → run at.Start read ≡ Some place →
     length read + least_behind place ≤ 65536 → 0 < least_behind place → wanted ≡ 1 → StopsShort error wanted middle left → Refused error had left
-stopped_in_header Truncated had middle left read place wanted first is short some one (none, few, more, ends) =
-    let nothing : read ++ none ≡ read = ap (λ l. read ++ l) (no_byte none (omega arith)) ∙ append-nil read in
-    (read, subst (Consumes had left) nothing (Consumes-trans had middle left read none first more), ends, inl (cut_header read place is short some))
-stopped_in_header ReadFault had middle left read place wanted first is short some one stopped = tt
-stopped_in_header NotPbm had middle left read place wanted first is short some one stopped = absurd stopped
-stopped_in_header BadSize had middle left read place wanted first is short some one stopped = absurd stopped
-stopped_in_header NoMemory had middle left read place wanted first is short some one stopped = absurd stopped
+stopped_in_header error had middle left read place wanted first is short some one stopped = grind (arith, no_byte, cut_header)
 
 -- the bytes so far and one more lead to the next place
 pub run-more : (read : List ℕ) (byte : ℕ) (place : Place) (next : Option Place) (after : Place) → run at.Start read ≡ Some place
@@ -60,9 +46,7 @@ run-more read byte place next after is gives some = run-then at.Start place (Som
 -- a header was read to its end
 pub read_header_of : (had left : Option (List ℕ)) (bytes : List ℕ) (width height : ℕ) → run at.Start bytes ≡ Some (at.End width height)
     → length bytes ≤ 65536 → Consumes had left bytes → ReadHeader (width, height) had left
-read_header_of had left bytes width height is short reads =
-    let whole = found bytes width height is short in
-    record { parts = whole.parts; header = whole.are; read = subst (Consumes had left) whole.is reads; width = whole.width_is; height = whole.height_is }
+read_header_of had left bytes width height is short reads = grind (arith, found bytes width height is short)
 
 -- one more byte was read, and no header begins so
 pub no_header_read : (had left : Option (List ℕ)) (read : List ℕ) (byte : ℕ) (place : Place) → run at.Start read ≡ Some place → length read + least_behind place ≤ 65536 → 0 < least_behind place →

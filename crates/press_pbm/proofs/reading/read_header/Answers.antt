@@ -1,5 +1,5 @@
 use Rattle.std.proofs.Common.{◌∷◌, ◌++◌, [], get_or, Some, sym, ap, ◌∙◌, arith, length-append}
-use Rattle.press_pbm.proofs.HeaderLemmas.{no_header, too_long, some_behind}
+use Rattle.press_pbm.proofs.HeaderLemmas.{no_header, too_long}
 use Rattle.press_pbm.proofs.ReadingLemmas.{or_both, passed_on, one_more, no_header_read, stopped_in_header, run-more, read_header_of}
 use Rattle.press_pbm.proofs.reading.read_header.Goals as goal
 
@@ -39,7 +39,7 @@ loop-length-preserved g c =
       omega (arith, long),
       next,
       omega (arith, long),
-      some_behind c.in-Some.next c.in_default-next.not-End,
+      grind (arith, c.in_default-next.not-End),
       one_more _ _ _ read c.fill.new.buffer reads c.fill.auto.buffer c.in_ok-fill.ensures.ok,
       λ was. c.fill.ensures.stays (stays was),
       or_both c.fill.ensures.stays few c.fill.ensures.few (λ before one. omega arith),

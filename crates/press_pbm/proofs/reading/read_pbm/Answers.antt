@@ -1,9 +1,12 @@
-use Rattle.press_pbm.proofs.FileLemmas.{made, blank_itself, file_read, rows_stopped, blank_stopped, never_most}
+use Rattle.press_bits.proofs.PageLemmas.{height-blank}
+use Rattle.press_bits.proofs.PageLemmas.{width-blank}
+use Rattle.std.proofs.Common.{arith}
+use Rattle.press_pbm.proofs.FileLemmas.{made, file_read, rows_stopped, never_most}
 use Rattle.press_pbm.proofs.ReadingLemmas.{passed_on}
 use Rattle.press_pbm.proofs.reading.read_pbm.Goals as goal
 
 pub read_rows-requires : goal.read_rows-requires
-read_rows-requires g c = blank_itself c.in_ok-page.page c.in_ok-width.width c.in_ok-width.height c.in_ok-page.ensures.white
+read_rows-requires g c = grind (arith, width-blank, height-blank, c.in_ok-page.ensures.white)
 
 pub returns-in_err-read_rows-clause-refused : goal.returns-in_err-read_rows-clause-refused
 returns-in_err-read_rows-clause-refused g c =
@@ -21,8 +24,7 @@ returns-clause-page g c =
 pub returns-in_err-page-clause-refused : goal.returns-in_err-page-clause-refused
 returns-in_err-page-clause-refused g c =
     passed_on _ _ _ c.from_residual-in_err-page.ensures.1
-    (blank_stopped c.in_err-page.field-0.0 c.in_ok-width.width c.in_ok-width.height _ _ c.blank.result c.in_ok-width.ensures.ok
-    c.in_err-page.was c.blank.ensures.bad_size.0)
+    (grind (arith, c.in_ok-width.ensures.ok, c.in_err-page.was, c.blank.ensures.bad_size.0))
 
 pub returns-in_err-read_rows-clause-cause : goal.returns-in_err-read_rows-clause-cause
 returns-in_err-read_rows-clause-cause g c =
