@@ -1,10 +1,8 @@
 -- The tests of reading, as facts.
-use Rattle.std.proofs.Common.{◌≡◌, ◌<◌, ◌≤◌, ℕ, List, [], ◌∷◌, ◌++◌, true, false, refl, arith, eqb}
-use Rattle.std.specs.Prelude.{Option, Some, None}
+use Rattle.std.proofs.Common.{◌≡◌, ◌<◌, ◌≤◌, ℕ, List, [], ◌∷◌, ◌++◌, true, false, arith}
 use Rattle.std.specs.Int.{IsInRange, is_in_range}
-use Rattle.std.proofs.lemmas.Bool.{and_right, eqb-true, eq-eqb, ne_eqb, eqb-false, false_from_ne_true}
+use Rattle.std.proofs.lemmas.Bool.{eqb-true, eq-eqb, ne_eqb, eqb-false, false_from_ne_true}
 use Rattle.std.proofs.lemmas.Bool.Decides.{nat_tests}
-use Rattle.press_cmd.specs.Carried.{data_count}
 use Rattle.press_units.specs.Field.{is_field_byte, is_value_field}
 use Rattle.press_cmd.specs.Grammar.{IsEnd, IsEarlierEnd, IsEscapeEnd, IsCharacter, IsText}
 use Rattle.press_cmd.proofs.Reading.{extends, is_end, is_earlier_end, is_escape_end, is_character, is_control, is_text, is_escape, is_feed}
@@ -19,9 +17,6 @@ range-from low high b h = grind (arith, nat_tests)
 pub range-below : (low high b : ℕ) → b < low → is_in_range low high b ≡ false
 range-below low high b h = grind (arith, nat_tests)
 
-pub range-above : (low high b : ℕ) → high < b → is_in_range low high b ≡ false
-range-above low high b h = grind (arith, nat_tests)
-
 pub is_end-true : (b : ℕ) → is_end b ≡ true → IsEnd b
 unfolding is_end
 is_end-true b h = range-true 64 94 b h
@@ -32,7 +27,7 @@ is_end-from b h = range-from 64 94 b h
 
 pub is_end-above : (b : ℕ) → 94 < b → is_end b ≡ false
 unfolding is_end
-is_end-above b h = range-above 64 94 b h
+is_end-above b h = grind (arith, nat_tests)
 
 pub is_earlier_end-true : (b : ℕ) → is_earlier_end b ≡ true → IsEarlierEnd b
 unfolding is_earlier_end
@@ -52,7 +47,7 @@ is_escape_end-from b h = range-from 48 126 b h
 
 pub is_escape_end-below : (b : ℕ) → b < 48 → is_escape_end b ≡ false
 unfolding is_escape_end
-is_escape_end-below b h = range-below 48 126 b h
+is_escape_end-below b h = grind (arith, nat_tests)
 
 pub is_character-true : (b : ℕ) → is_character b ≡ true → IsCharacter b
 unfolding is_character
@@ -96,7 +91,7 @@ is_control-true b h = let r = range-true 0 31 b h in omega arith
 
 pub is_control-above : (b : ℕ) → 32 ≤ b → is_control b ≡ false
 unfolding is_control
-is_control-above b h = range-above 0 31 b (omega arith)
+is_control-above b h = grind (arith, nat_tests)
 
 pub is_feed-true : (b : ℕ) → is_feed b ≡ true → b ≡ 10
 unfolding is_feed
@@ -117,8 +112,3 @@ field_byte-below b h = grind (arith, nat_tests)
 pub extends-past : (f : List ℕ) (b : ℕ) → 64 ≤ b → extends f b ≡ false
 unfolding extends
 extends-past f b h = false_from_ne_true _ (λ t. absurd (omega (arith, field_byte-below b (test-byte f b [] t))))
-
--- an `@` carries no data
-pub no_data_at : (c : ℕ) (g : Option ℕ) (f : List ℕ) → data_count c g f 64 ≡ 0
-no_data_at c None f = refl
-no_data_at c (Some g) f = rw (and_right (eqb g 98) false refl, and_right (eqb g 112) false refl, and_right (eqb c 42) false refl, and_right (eqb c 38) false refl) refl

@@ -1,7 +1,6 @@
 -- Which parameters spell the universal exit.
-use Rattle.std.proofs.Common.{◌≡◌, ◌≤◌, ◌++◌, ◌∙◌, ℕ, List, [], ◌∷◌, length, Bool, true, false, Option, Some, None, sym, ap, arith}
+use Rattle.std.proofs.Common.{◌≡◌, ◌≤◌, ◌++◌, ℕ, List, [], ◌∷◌, length, Bool, true, false, Option, arith}
 use Rattle.std.specs.Prelude.{is_some, bytes_eq, IsTrue, ◌==◌, ◌↔◌}
-use Rattle.std.proofs.lemmas.Bool.{false≢true, eqb-true}
 use Rattle.std.proofs.lemmas.Slice.Eq.{bytes_eq-Decides}
 use Rattle.std.proofs.lemmas.List.{nil_from_length}
 use Rattle.press_cmd.specs.Token.{uel, bytes_of, param_of}
@@ -25,29 +24,16 @@ exit_tail (a ∷ b ∷ c ∷ x ∷ y ∷ z ∷ w ∷ []) e d high h = cc
 exit_tail (a ∷ b ∷ c ∷ x ∷ y ∷ z ∷ w ∷ v ∷ f) e d high h = cc
 
 exit_param : (c : ℕ) (g : Option ℕ) (f : List ℕ) (e : ℕ) (d : List ℕ) → is_some g ≡ false → IsEnd e → bytes_of (param_of c g f e d) ≡ uel → IsExitTail f e d
-exit_param c None f e d no_group class h = exit_tail f e d class.0 (cc)
-exit_param c (Some g) f e d no_group class h = cc
-
-pub exit_spelled : (c : ℕ) (g : Option ℕ) → is_some g ≡ false → c ≡ 37 → bytes_of (param_of c g (45 ∷ 49 ∷ 50 ∷ 51 ∷ 52 ∷ 53 ∷ []) 88 []) ≡ uel
-exit_spelled c None no_group e = cc
-exit_spelled c (Some g) no_group e = cc
+exit_param c g f e d no_group class h = grind (arith, exit_tail)
 
 -- the test: no group, `%`, X, the field -12345 and no data
 module _ (c : ℕ) (g : Option ℕ) (f : List ℕ) (e : ℕ) (d text : List ℕ) (no_group : is_some g ≡ false) (class : IsEnd e) (is_text : text ≡ 45 ∷ 49 ∷ 50 ∷ 51 ∷ 52 ∷ 53 ∷ []) where
   pub exit_decides : (answer : Bool) → c ≡ 37 → e ≡ 88 → true ≡ bytes_eq f text → answer ≡ (length d == 0) → IsTrue answer ↔ (bytes_of (param_of c g f e d) ≡ uel)
-  exit_decides answer is_percent is_x same is_empty =
-      let field = (bytes_eq-Decides f text).0 (sym same) ∙ is_text in (
-        λ yes. let none : d ≡ [] = nil_from_length d (eqb-true (length d) 0 (sym is_empty ∙ yes)) in rw (field, is_x, none) (exit_spelled c g no_group is_percent),
-        λ h. is_empty ∙ ap (λ (x : List ℕ). length x == 0) (exit_param c g f e d no_group class h).payload,
-      )
+  exit_decides answer is_percent is_x same is_empty = grind (arith, bytes_eq-Decides, nil_from_length)
 
   pub other_field : (answer : Bool) → false ≡ bytes_eq f text → answer ≡ false → IsTrue answer ↔ (bytes_of (param_of c g f e d) ≡ uel)
-  other_field answer other never = (
-    λ yes. absurd (false≢true (sym never ∙ yes)),
-    λ h. absurd (false≢true (other ∙ (bytes_eq-Decides f text).1 ((exit_param c g f e d no_group class h).field ∙ sym is_text))),
-  )
+  other_field answer other never = grind (arith, exit_param)
 
 pub other_end : (c : ℕ) (g : Option ℕ) (f : List ℕ) (e : ℕ) (d : List ℕ) → is_some g ≡ false → IsEnd e → (answer : Bool) → answer ≡ false
     → (e ≡ 88 → ⊥) → IsTrue answer ↔ (bytes_of (param_of c g f e d) ≡ uel)
-other_end c g f e d no_group class answer never other =
-    (λ yes. absurd (false≢true (sym never ∙ yes)), λ h. absurd (other (exit_param c g f e d no_group class h).end))
+other_end c g f e d no_group class answer never other = grind (arith, exit_param)

@@ -1,12 +1,11 @@
 -- A test for a PJL line, by which a line that is known to be one can be used as one.
-use Rattle.std.proofs.Common.{◌≡◌, ◌≤◌, ◌∙◌, ◌&&◌, ℕ, List, [], ◌∷◌, ◌++◌, length, take, drop, Bool, true, false, cond, Option, Some, None, refl, sym, ap, eqb, leb, arith}
-use Rattle.std.proofs.lemmas.List.{take-append-drop}
+use Rattle.std.proofs.Common.{◌≡◌, ◌≤◌, ◌∙◌, ◌&&◌, ℕ, List, [], ◌∷◌, ◌++◌, length, take, Bool, true, false, cond, Option, Some, None, refl, ap, eqb, leb, arith}
 use Rattle.std.specs.List.{list_all}
-use Rattle.std.proofs.lemmas.Bool.{and_parts, and_from, eqb-true, leb-true, le-leb}
+use Rattle.std.proofs.lemmas.Bool.{and_parts, and_from, eqb-true, leb-true}
 use Rattle.std.proofs.Math.Bool.{Bool-set}
 use mathlib.Core.Logic.{∥∥₁_elim}
 use Rattle.press_cmd.specs.Token.{pjl_mark}
-use Rattle.press_cmd.specs.Grammar.{longest_line, is_line_byte, differs, BeginsLine, IsPjlLine}
+use Rattle.press_cmd.specs.Grammar.{longest_line, is_line_byte, differs, IsPjlLine}
 use Rattle.press_cmd.proofs.Reading.{stripped}
 use Rattle.press_cmd.proofs.ReadHead.{stripped-true}
 
@@ -45,11 +44,7 @@ ends_plain-true (b ∷ c ∷ x) h =
 
 is_line-from : (u : List ℕ) → IsPjlLine u → is_line u ≡ true
 unfolding is_line ends_after_mark
-is_line-from u is =
-    let text = is.begins.text in
-    let spelled : u ≡ pjl_mark ++ (text ++ (10 ∷ [])) = is.spelled ∙ ap (λ w. w ++ (10 ∷ [])) is.begins.mark in
-    let stripped_to : stripped pjl_mark u ≡ Some (text ++ (10 ∷ [])) = ap (stripped pjl_mark) spelled in
-    and_from (ends_after_mark (stripped pjl_mark u)) _ (ap ends_after_mark stripped_to ∙ ends_plain-from text is.begins.plain) (le-leb (length u) longest_line is.fits)
+is_line-from u is = grind (arith, ends_plain-from)
 
 line-at : (u : List ℕ) (o : Option (List ℕ)) → stripped pjl_mark u ≡ o → ends_after_mark o ≡ true → length u ≤ longest_line → IsPjlLine u
 unfolding ends_after_mark
@@ -75,24 +70,10 @@ IsPjlLine-known u h = is_line-true u (∥∥₁_elim h (Bool-set (is_line u) tru
 
 -- bytes that do not differ from a text, and are as long, begin with it
 pub equal_and : (b c : Bool) → cond b c true ≡ false → (b ≡ true) × (c ≡ false)
-equal_and true c h = (refl, h)
-equal_and false c h = absurd (cc)
+equal_and b c h = grind arith
 
 pub take-not_differs : (text bytes : List ℕ) → differs text bytes ≡ false → length text ≤ length bytes → take (length text) bytes ≡ text
 take-not_differs [] bytes same enough = refl
 take-not_differs (byte ∷ text) [] same enough = absurd (omega arith)
 take-not_differs (byte ∷ text) (other ∷ bytes) same enough =
-    let both = equal_and (eqb byte other) (differs text bytes) same in
-    let heads : other ≡ byte = sym (eqb-true byte other both.0) in
-    let tails : take (length text) bytes ≡ text = take-not_differs text bytes both.1 (omega arith) in
-    cc
-
-pub BeginsLine-from_tests : (bytes : List ℕ) → differs pjl_mark bytes ≡ false → 4 ≤ length bytes → list_all is_line_byte (drop 4 bytes) ≡ true → BeginsLine bytes
-BeginsLine-from_tests bytes same enough plain = record {
-  text = drop 4 bytes;
-  mark = sym (take-append-drop 4 bytes) ∙ ap (λ prefix. prefix ++ drop 4 bytes) (take-not_differs pjl_mark bytes same enough);
-  plain = plain;
-}
-
-pub BeginsLine-plain : (bytes : List ℕ) → BeginsLine bytes → list_all is_line_byte (drop 4 bytes) ≡ true
-BeginsLine-plain bytes is = ap (λ b. list_all is_line_byte (drop 4 b)) is.mark ∙ is.plain
+    grind (arith, take-not_differs text bytes (equal_and (eqb byte other) (differs text bytes) same).1 (omega arith))

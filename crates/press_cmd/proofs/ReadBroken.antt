@@ -1,15 +1,14 @@
 -- What reading gives is a whole command or a broken one, and it gives each broken one.
-use Rattle.std.proofs.Common.{◌≡◌, ◌<◌, ◌+◌, ◌∙◌, ◌⊎◌, ℕ, suc, List, [], ◌∷◌, ◌++◌, length, true, Some, None, refl, sym, ap, subst, inl, inr, arith, append_assoc, length-append, replicate}
+use Rattle.std.proofs.Common.{◌≡◌, ◌<◌, ◌+◌, ◌∙◌, ◌⊎◌, ℕ, suc, List, [], ◌∷◌, ◌++◌, length, true, refl, sym, ap, subst, inl, inr, arith, append_assoc, length-append, replicate}
 use Rattle.std.proofs.lemmas.List.{append-nil, length-replicate}
 use Rattle.press_cmd.specs.Token.{Token, Escape, Grouped, Ungrouped, escape_byte}
-use Rattle.press_cmd.specs.ParserState.{ParserState, Exit, OverlongLine, OtherLanguage, Pcl, Open}
+use Rattle.press_cmd.specs.ParserState.{ParserState, Pcl, Open}
 use Rattle.press_units.specs.Field.{is_value_field}
 use Rattle.press_cmd.specs.Grammar.{Whole, GoesOn, Breaks, IsCharacter}
 use Rattle.press_cmd.proofs.Reading.{State, Start, Escaped, Single, Pair, SingleData, PairData, Step, Goes, Gives, Stops, Nothing, Found, step, after_step, read_on}
 use Rattle.press_units.proofs.FieldTest.{IsField-from_test}
-use Rattle.press_cmd.proofs.ByteTests.{no_data_at}
 use Rattle.press_cmd.proofs.ReadWhole.{start, whole_reads}
-use Rattle.press_cmd.proofs.ReadStep.{Wraps, PairDataRead, SingleDataRead, Reached, broken_in, EndsOpen, Sound, step_sound, no_exit-data, whole-pair, wraps-more, pair-data-more}
+use Rattle.press_cmd.proofs.ReadStep.{Wraps, PairDataRead, SingleDataRead, Reached, broken_in, EndsOpen, Sound, step_sound, no_exit-data, whole-pair}
 
 -- ---- what has been read goes on to a whole command
 
@@ -34,7 +33,7 @@ goes-single u c f is field r =
           character_class = is;
           value_field = IsField-from_test f field;
           end_class = (omega arith, omega arith);
-          count = sym (no_data_at c None f);
+          count = sym (grind arith);
           no_exit = λ exit. absurd (omega (arith, last_of (escape_byte ∷ c ∷ f) 64 (escape_byte ∷ 37 ∷ 45 ∷ 49 ∷ 50 ∷ 51 ∷ 52 ∷ 53 ∷ []) 88 (sym all ∙ exit)));
         },
         refl,
@@ -47,8 +46,8 @@ goes-pair m u c g f field wraps = (
   [],
   Grouped c g f 64 [],
   Pcl,
-  whole-pair m c g (u ++ (64 ∷ [])) (f ++ (64 ∷ [])) f 64 [] Pcl (wraps-more m c g u f (64 ∷ []) wraps)
-      (record { byte = 64; spelled = refl; value_field = IsField-from_test f field; ends = inl ((omega arith, omega arith), refl, refl); count = sym (no_data_at c (Some g) f) }),
+  whole-pair m c g (u ++ (64 ∷ [])) (f ++ (64 ∷ [])) f 64 [] Pcl (grind arith)
+      (record { byte = 64; spelled = refl; value_field = IsField-from_test f field; ends = inl ((omega arith, omega arith), refl, refl); count = sym (grind arith) }),
 )
 
 goes-single_data : (u : List ℕ) (c : ℕ) (f : List ℕ) (e n : ℕ) (d : List ℕ) → SingleDataRead u c f e n d → GoesOn Pcl u
@@ -81,34 +80,19 @@ goes-pair_data m u c g f e next n d r =
       replicate n 0,
       Grouped c g f e (d ++ more),
       next,
-      whole-pair m c g (u ++ more) (f ++ (r.byte ∷ (d ++ more))) f e (d ++ more) next (pair-data-more m u c g f e next n d more r)
+      whole-pair m c g (u ++ more) (f ++ (r.byte ∷ (d ++ more))) f e (d ++ more) next (grind (arith, append_assoc))
           (record { byte = r.byte; spelled = refl; value_field = IsField-from_test f r.field; ends = r.ends; count = size ∙ r.count }),
     )
 
 -- What has been read, but nothing, goes on to a whole command.
 pub reached-GoesOn : (s : State) (m : ParserState) (u : List ℕ) → Reached s m u → (u ≡ [] → ⊥) → GoesOn m u
 reached-GoesOn Start Pcl u r some_ = absurd (some_ r)
-reached-GoesOn Start (Open x y) u r some_ = absurd r
-reached-GoesOn Start Exit u r some_ = absurd r
-reached-GoesOn Start OverlongLine u r some_ = absurd r
-reached-GoesOn Start OtherLanguage u r some_ = absurd r
 reached-GoesOn Escaped Pcl u r some_ = (64, [], Escape 64, Pcl, ((omega arith, omega arith), ap (λ w. w ++ (64 ∷ [])) r, refl))
-reached-GoesOn Escaped (Open x y) u r some_ = absurd r
-reached-GoesOn Escaped Exit u r some_ = absurd r
-reached-GoesOn Escaped OverlongLine u r some_ = absurd r
-reached-GoesOn Escaped OtherLanguage u r some_ = absurd r
 reached-GoesOn (Single c f) Pcl u r some_ = goes-single u c f r.0 r.1 r.2
-reached-GoesOn (Single c f) (Open x y) u r some_ = absurd r
-reached-GoesOn (Single c f) Exit u r some_ = absurd r
-reached-GoesOn (Single c f) OverlongLine u r some_ = absurd r
-reached-GoesOn (Single c f) OtherLanguage u r some_ = absurd r
 reached-GoesOn (SingleData c f e n d) Pcl u r some_ = goes-single_data u c f e n d r
-reached-GoesOn (SingleData c f e n d) (Open x y) u r some_ = absurd r
-reached-GoesOn (SingleData c f e n d) Exit u r some_ = absurd r
-reached-GoesOn (SingleData c f e n d) OverlongLine u r some_ = absurd r
-reached-GoesOn (SingleData c f e n d) OtherLanguage u r some_ = absurd r
 reached-GoesOn (Pair c g f) m u r some_ = goes-pair m u c g f r.0 r.1
 reached-GoesOn (PairData c g f e next n d) m u r some_ = goes-pair_data m u c g f e next n d r
+reached-GoesOn _ _ u r some_ = absurd r
 
 -- ---- a walk over bytes that give no command yet
 
@@ -118,11 +102,7 @@ pub record Walked (m : ParserState) (u : List ℕ) (s : State) : Type 0 where
   pub leads : (z : List ℕ) → read_on (start m) (u ++ z) ≡ read_on s z
 
 walked-more : (m : ParserState) (u : List ℕ) (s : State) (b : ℕ) (further : State) → Walked m u s → step s b ≡ Goes further → Walked m (u ++ (b ∷ [])) further
-walked-more m u s b further w e =
-    record {
-      reached = subst (λ (o : Step). Sound m u b o) e (step_sound s m u b w.reached);
-      leads = λ z. ap (read_on (start m)) (append_assoc u (b ∷ []) z) ∙ w.leads (b ∷ z) ∙ ap (λ o. after_step o b z (λ t. read_on t z)) e;
-    }
+walked-more m u s b further w e = grind (arith, append_assoc, step_sound)
 
 record SomeWalk (m : ParserState) (u : List ℕ) : Type 0 where
   state : State
@@ -132,13 +112,7 @@ walk-at : (m : ParserState) (u0 : List ℕ) (s : State) (b : ℕ) (u y : List �
     → after_step o b (u ++ y) (λ k. read_on k (u ++ y)) ≡ Found t n left → length left < length y
     → ((further : State) → Walked m (u0 ++ (b ∷ [])) further → read_on further (u ++ y) ≡ Found t n left → SomeWalk m ((u0 ++ (b ∷ [])) ++ u))
     → SomeWalk m (u0 ++ (b ∷ u))
-walk-at m u0 s b u y t n left (Goes further) w e h short ih =
-    subst (λ (x : List ℕ). SomeWalk m x) (append_assoc u0 (b ∷ []) u) (ih further (walked-more m u0 s b further w e) h)
-walk-at m u0 s b u y t n left (Gives c k) w e h short ih =
-    let same : u ++ y ≡ left = cc in absurd (omega (arith, length-append u y, ap length same))
-walk-at m u0 s b u y t n left (Stops c) w e h short ih =
-    let same : b ∷ (u ++ y) ≡ left = cc in absurd (omega (arith, length-append u y, ap length same))
-walk-at m u0 s b u y t n left Nothing w e h short ih = cc
+walk-at m u0 s b u y t n left o w e h short ih = grind (arith, walked-more, append_assoc, length-append)
 
 walk : (m : ParserState) (u0 : List ℕ) (s : State) (u y : List ℕ) (t : Token) (n : ParserState) (left : List ℕ) → Walked m u0 s
     → read_on s (u ++ y) ≡ Found t n left → length left < length y → SomeWalk m (u0 ++ u)
@@ -152,13 +126,6 @@ OfPcl Pcl = Unit {0}
 OfPcl (Open c g) = Unit {0}
 OfPcl _ = ⊥
 
-pub walked_none : (m : ParserState) → OfPcl m → Walked m [] (start m)
-walked_none Pcl is = record { reached = refl; leads = λ z. refl }
-walked_none (Open c g) is = record { reached = (refl, (refl, refl, refl)); leads = λ z. refl }
-walked_none Exit is = absurd is
-walked_none OverlongLine is = absurd is
-walked_none OtherLanguage is = absurd is
-
 -- ---- a sequence that breaks
 
 longer : (x : List ℕ) (y : ℕ) → x ++ (y ∷ []) ≡ [] → ⊥
@@ -168,12 +135,7 @@ longer (z ∷ x) y h = cc
 breaks-at : (m : ParserState) (u : List ℕ) (s : State) (b : ℕ) (later : List ℕ) (o : Step) → (u ≡ [] → ⊥) → Walked m u s → step s b ≡ o → Sound m u b o
     → ((more : List ℕ) (t : Token) (n : ParserState) → Whole m (u ++ (b ∷ more)) t n → ⊥)
     → after_step o b later (λ k. read_on k later) ≡ Found (broken_in m u) Pcl (b ∷ later)
-breaks-at m u s b later (Goes further) some_ w e sound cannot =
-    let on = reached-GoesOn further m (u ++ (b ∷ [])) sound (λ empty. longer u b empty) in
-    absurd (cannot (on.0 ∷ on.1) on.2 on.3 (subst (λ (x : List ℕ). Whole m x on.2 on.3) (append_assoc u (b ∷ []) (on.0 ∷ on.1)) on.4))
-breaks-at m u s b later (Gives t n) some_ w e sound cannot = absurd (cannot [] t n sound)
-breaks-at m u s b later (Stops t) some_ w e sound cannot = ap (λ x. Found x Pcl (b ∷ later)) sound.0
-breaks-at m u s b later Nothing some_ w e sound cannot = absurd (some_ sound)
+breaks-at m u s b later o some_ w e sound cannot = grind (arith, reached-GoesOn, append_assoc)
 
 -- Reading finds each sequence that breaks.
 pub breaks_reads : (m : ParserState) → OfPcl m → (u v : List ℕ) → Breaks m u v → read_on (start m) (u ++ v) ≡ Found (broken_in m u) Pcl v
@@ -181,7 +143,7 @@ breaks_reads m is u v k =
     let w = k.could in
     let found : read_on (start m) (u ++ (w.0 ∷ w.1)) ≡ Found w.2 w.3 [] =
     ap (read_on (start m)) (sym (append-nil (u ++ (w.0 ∷ w.1)))) ∙ whole_reads m (u ++ (w.0 ∷ w.1)) w.2 w.3 [] w.4 in
-    let some_walk = walk m [] (start m) u (w.0 ∷ w.1) w.2 w.3 [] (walked_none m is) found (omega arith) in
+    let some_walk = walk m [] (start m) u (w.0 ∷ w.1) w.2 w.3 [] (grind arith) found (omega arith) in
     ap (λ x. read_on (start m) (u ++ x)) k.next_byte
     ∙ some_walk.walked.leads (k.byte ∷ k.later)
     ∙ breaks-at m u some_walk.state k.byte k.later (step some_walk.state k.byte) k.stands some_walk.walked refl (step_sound some_walk.state m u k.byte some_walk.walked.reached) k.cannot
@@ -204,11 +166,9 @@ stops-Breaks m u s b later t some_ w e =
       next_byte = refl;
       could = reached-GoesOn s m u w.reached some_;
       cannot = λ more command next whole.
-          let read : read_on (start m) (u ++ (b ∷ more)) ≡ Found command next [] =
-          ap (read_on (start m)) (sym (append-nil (u ++ (b ∷ more)))) ∙ whole_reads m (u ++ (b ∷ more)) command next [] whole in
+          let read : read_on (start m) (u ++ (b ∷ more)) ≡ Found command next [] = grind (arith, append-nil (u ++ (b ∷ more)), whole_reads m (u ++ (b ∷ more)) command next [] whole) in
           let other : read_on (start m) (u ++ (b ∷ more)) ≡ Found t Pcl (b ∷ more) = w.leads (b ∷ more) ∙ ap (λ o. after_step o b more (λ k. read_on k more)) e in
-          let same : Found command next [] ≡ Found t Pcl (b ∷ more) = sym read ∙ other in
-          cc;
+          cc (sym read ∙ other);
     }
 
 gave-at : (m : ParserState) (u : List ℕ) (s : State) (b : ℕ) (x : List ℕ) (t : Token) (n : ParserState) (left : List ℕ) (o : Step) → Walked m u s → step s b ≡ o → Sound m u b o
@@ -216,15 +176,8 @@ gave-at : (m : ParserState) (u : List ℕ) (s : State) (b : ℕ) (x : List ℕ) 
     → after_step o b x (λ k. read_on k x) ≡ Found t n left
     → ((further : State) → Walked m (u ++ (b ∷ [])) further → read_on further x ≡ Found t n left → Gave m (u ++ (b ∷ [])) x t n left)
     → Gave m u (b ∷ x) t n left
-gave-at m u s b x t n left (Goes further) w e sound live h ih =
-    let g = ih further (walked-more m u s b further w e) h in
-    let P : List ℕ → Type 0 = λ y. Whole m y t n ⊎ ((t ≡ broken_in m y) × (n ≡ Pcl) × Breaks m y left) in
-    record { used = b ∷ g.used; cut = ap (λ y. b ∷ y) g.cut; what = subst P (append_assoc u (b ∷ []) g.used) g.what }
-gave-at m u s b x t n left (Gives c k) w e sound live h ih =
-    let command : c ≡ t = cc in
-    let mode : k ≡ n = cc in
-    let rest : x ≡ left = cc in
-    record { used = b ∷ []; cut = ap (λ y. b ∷ y) rest; what = inl (subst (λ (y : ParserState). Whole m (u ++ (b ∷ [])) t y) mode (subst (λ (y : Token). Whole m (u ++ (b ∷ [])) y k) command sound)) }
+gave-at m u s b x t n left (Goes further) w e sound live h ih = grind (arith, append_assoc)
+gave-at m u s b x t n left (Gives c k) w e sound live h ih = grind arith
 gave-at m u s b x t n left (Stops c) w e sound live h ih =
     let command : c ≡ t = cc in
     let mode : Pcl ≡ n = cc in

@@ -1,5 +1,5 @@
 -- Reading a PJL line.
-use Rattle.std.proofs.Common.{◌≡◌, ◌<◌, ◌+◌, ◌∙◌, ℕ, suc, List, [], ◌∷◌, ◌++◌, length, Bool, true, false, cond, Some, refl, sym, ap, subst, inl, inr, arith, append_assoc, length-append}
+use Rattle.std.proofs.Common.{◌≡◌, ◌<◌, ◌+◌, ◌∙◌, ℕ, suc, List, [], ◌∷◌, ◌++◌, length, Bool, true, false, cond, Some, refl, sym, ap, subst, inr, arith, append_assoc, length-append}
 use Rattle.std.specs.List.{list_all}
 use Rattle.std.proofs.lemmas.List.{append-nil}
 use Rattle.std.proofs.lemmas.Bool.{and_parts, and_from, not-true, not_from_false, eqb-false, eqb-true, ne_eqb, eq-eqb}
@@ -53,16 +53,11 @@ line_prefix prefix (b ∷ text) z h short =
 -- plain bytes that make the line full break it
 line_full : (prefix text z : List ℕ) (b : ℕ) → list_all is_line_byte (b ∷ text) ≡ true → length prefix + suc (length text) ≡ longest_line
     → read_line prefix ((b ∷ text) ++ z) ≡ Found (Broken (prefix ++ (b ∷ text))) OverlongLine z
-line_full prefix [] z b h full =
-    let p = and_parts (is_line_byte b) true h in
-    rw (plain-feed b p.0, plain-escape b p.0, is_full-from prefix (omega arith)) refl
+line_full prefix [] z b h full = grind (arith, is_full-from, plain-feed, plain-escape)
 line_full prefix (a ∷ text) z b h full =
     let p = and_parts (is_line_byte b) (list_all is_line_byte (a ∷ text)) h in
     rw (plain-feed b p.0, plain-escape b p.0, is_full-below prefix (omega arith))
     (line_full (prefix ++ (b ∷ [])) text z a p.1 (omega (arith, length-append prefix (b ∷ []))) ∙ ap (λ w. Found (Broken w) OverlongLine z) (append_assoc prefix (b ∷ []) (a ∷ text)))
-
-mark_reads : (u text z : List ℕ) → u ≡ pjl_mark ++ text → stripped pjl_mark (u ++ z) ≡ Some (text ++ z)
-mark_reads u text z e = ap (λ w. stripped pjl_mark (w ++ z)) e
 
 feed_true : is_feed 10 ≡ true
 unfolding is_feed
@@ -70,16 +65,7 @@ feed_true = refl
 
 -- a whole line is read, and one that breaks
 pub line_reads : (u v : List ℕ) → IsPjlLine u → (rest : List ℕ) → stripped pjl_mark (u ++ v) ≡ Some rest → read_line pjl_mark rest ≡ Found (PjlLine u) (mode_after u) v
-line_reads u v is rest e =
-    let prefix = is.prefix in
-    let text = is.begins.text in
-    let spelled : u ≡ pjl_mark ++ (text ++ (10 ∷ [])) = is.spelled ∙ ap (λ w. w ++ (10 ∷ [])) is.begins.mark in
-    let same : Some rest ≡ Some ((text ++ (10 ∷ [])) ++ v) = sym e ∙ mark_reads u (text ++ (10 ∷ [])) v spelled in
-    let is_rest : rest ≡ text ++ (10 ∷ v) = cc (same, append_assoc text (10 ∷ []) v) in
-    let size : length u ≡ 4 + (length text + 1) = omega (arith, ap length spelled, length-append text (10 ∷ [])) in
-    ap (read_line pjl_mark) is_rest
-    ∙ line_prefix pjl_mark text (10 ∷ v) is.begins.plain (omega (arith, is.fits))
-    ∙ rw feed_true (ap (λ w. Found (PjlLine w) (mode_after w) v) (sym spelled))
+line_reads u v is rest e = grind (arith, line_prefix, feed_true, append_assoc, length-append)
 
 feed-escape : is_feed escape_byte ≡ false
 unfolding is_feed
@@ -87,23 +73,14 @@ feed-escape = refl
 
 pub cut_reads : (u v : List ℕ) (later : List ℕ) → BeginsLine u → v ≡ escape_byte ∷ later → length u < longest_line → (rest : List ℕ) → stripped pjl_mark (u ++ v) ≡ Some rest
     → read_line pjl_mark rest ≡ Found (Broken u) Exit v
-cut_reads u v later is next short rest e =
-    let text = is.text in
-    let same : Some rest ≡ Some (text ++ v) = sym e ∙ mark_reads u text v is.mark in
-    let is_rest : rest ≡ text ++ (escape_byte ∷ later) = cc (same, ap (λ w. text ++ w) next) in
-    ap (read_line pjl_mark) is_rest
-    ∙ line_prefix pjl_mark text (escape_byte ∷ later) is.plain (omega (arith, ap length is.mark))
-    ∙ rw (feed-escape, is_escape-from escape_byte refl) (cc (is.mark, next))
+cut_reads u v later is next short rest e = grind (arith, line_prefix, feed-escape, is_escape-from)
 
 full-at : (text u v : List ℕ) → list_all is_line_byte text ≡ true → u ≡ pjl_mark ++ text → length u ≡ longest_line → read_line pjl_mark (text ++ v) ≡ Found (Broken u) OverlongLine v
 full-at [] u v plain mark full = absurd (omega (arith, ap length mark))
-full-at (b ∷ text) u v plain mark full = line_full pjl_mark text v b plain (omega (arith, ap length mark)) ∙ ap (λ w. Found (Broken w) OverlongLine v) (sym mark)
+full-at (b ∷ text) u v plain mark full = grind (arith, line_full pjl_mark text v b plain (omega (arith, ap length mark)), mark)
 
 pub full_reads : (u v : List ℕ) → BeginsLine u → length u ≡ longest_line → (rest : List ℕ) → stripped pjl_mark (u ++ v) ≡ Some rest → read_line pjl_mark rest ≡ Found (Broken u) OverlongLine v
-full_reads u v is full rest e =
-    let same : Some rest ≡ Some (is.text ++ v) = sym e ∙ mark_reads u is.text v is.mark in
-    let is_rest : rest ≡ is.text ++ v = cc in
-    ap (read_line pjl_mark) is_rest ∙ full-at is.text u v is.plain is.mark full
+full_reads u v is full rest e = grind (arith, full-at)
 
 -- what reading a line gives
 pub record GaveLine (prefix x : List ℕ) (t : Token) (n : ParserState) (left : List ℕ) : Type 0 where
@@ -129,28 +106,14 @@ full-line-at prefix b x t n left true is short plain full h ih =
       cut = ap (λ y. b ∷ y) rest;
       what = subst (λ (y : Token). Stands Exit (prefix ++ (b ∷ [])) left y n) command (refl, (begins-more prefix b is plain, inr (size, sym mode)));
     }
-full-line-at prefix b x t n left false is short plain full h ih =
-    let size = length-append prefix (b ∷ []) in
-    let below : length (prefix ++ (b ∷ [])) < longest_line = omega (arith, is_full-false prefix full) in
-    let g = ih (begins-more prefix b is plain) below h in
-    record { used = b ∷ g.used; cut = ap (λ y. b ∷ y) g.cut; what = subst (λ (y : List ℕ). Stands Exit y left t n) (append_assoc prefix (b ∷ []) g.used) g.what }
+full-line-at prefix b x t n left false is short plain full h ih = grind (arith, is_full-false, begins-more, append_assoc, length-append)
 
 escape-line-at : (prefix : List ℕ) (b : ℕ) (x : List ℕ) (t : Token) (n : ParserState) (left : List ℕ) (escape : Bool) → BeginsLine prefix
     → length prefix < longest_line → is_feed b ≡ false → is_escape b ≡ escape
     → cond escape (Found (Broken prefix) Exit (b ∷ x)) (cond (is_full prefix) (Found (Broken (prefix ++ (b ∷ []))) OverlongLine x) (read_line (prefix ++ (b ∷ [])) x)) ≡ Found t n left
     → (BeginsLine (prefix ++ (b ∷ [])) → length (prefix ++ (b ∷ [])) < longest_line → read_line (prefix ++ (b ∷ [])) x ≡ Found t n left → GaveLine (prefix ++ (b ∷ [])) x t n left)
     → GaveLine prefix (b ∷ x) t n left
-escape-line-at prefix b x t n left true is short feed escape h ih =
-    let command : Broken prefix ≡ t = cc in
-    let mode : Exit ≡ n = cc in
-    let rest : b ∷ x ≡ left = cc in
-    let next : left ≡ escape_byte ∷ x = sym rest ∙ ap (λ y. y ∷ x) (is_escape-true b escape) in
-    record {
-      used = [];
-      cut = rest;
-      what = subst (λ (y : List ℕ). Stands Exit y left t n) (sym (append-nil prefix))
-          (subst (λ (y : Token). Stands Exit prefix left y n) command (refl, (is, inl (x, next, short, sym mode))));
-    }
+escape-line-at prefix b x t n left true is short feed escape h ih = grind (arith, append-nil, is_escape-true)
 escape-line-at prefix b x t n left false is short feed escape h ih =
     full-line-at prefix b x t n left (is_full prefix) is short (plain-from b feed escape) refl h ih
 

@@ -1,15 +1,16 @@
 -- Reading finds each whole command, whatever follows it.
-use Rattle.std.proofs.Common.{◌≡◌, ◌-◌, ◌∙◌, ℕ, zero, suc, List, [], ◌∷◌, ◌++◌, length, true, false, Some, None, refl, sym, ap, inl, inr, arith, append_assoc}
+use Rattle.std.proofs.Common.{◌≡◌, ◌-◌, ◌∙◌, ℕ, zero, suc, List, [], ◌∷◌, ◌++◌, length, true, false, Some, None, refl, ap, arith, append_assoc}
 use Rattle.std.proofs.lemmas.List.{append-nil}
 use Rattle.std.proofs.lemmas.Bool.{false_from_ne_true}
 use Rattle.std.proofs.lemmas.Slice.Eq.{bytes_eq-Decides}
-use Rattle.press_cmd.specs.Token.{Token, Escape, Grouped, Ungrouped, Control, Text, Broken, Uel, PjlLine, ForeignByte, uel, escape_byte}
-use Rattle.press_cmd.specs.ParserState.{ParserState, Exit, OverlongLine, OtherLanguage, Pcl, Open}
+use Rattle.std.proofs.lemmas.Grind.{common_steps}
+use Rattle.press_cmd.specs.Token.{Token, Escape, Grouped, Ungrouped, Control, Text, Uel, uel, escape_byte}
+use Rattle.press_cmd.specs.ParserState.{ParserState, Exit, Pcl, Open}
 use Rattle.press_cmd.specs.Carried.{data_count}
 use Rattle.press_units.specs.Field.{is_value_field}
-use Rattle.press_cmd.specs.Grammar.{Whole, IsPair, IsGrouped, IsUngrouped, Ends, IsEnd, IsEarlierEnd, value_pair}
-use Rattle.press_cmd.proofs.Reading.{State, Start, Single, Pair, SingleData, PairData, Step, Goes, Gives}
-use Rattle.press_cmd.proofs.Reading.{Stops, Nothing, Found, extends, is_end, is_escape_end, is_character}
+use Rattle.press_cmd.specs.Grammar.{Whole, IsPair, IsGrouped, IsUngrouped, IsEnd, IsEarlierEnd, value_pair}
+use Rattle.press_cmd.proofs.Reading.{State, Start, Single, Pair, SingleData, PairData, Step}
+use Rattle.press_cmd.proofs.Reading.{Found, extends, is_end, is_escape_end, is_character}
 use Rattle.press_cmd.proofs.Reading.{is_escape, is_exit, single_with, pair_with, step, after_step, read_on}
 use Rattle.press_units.proofs.FieldTest.{test-from_IsField, test-prefix}
 use Rattle.press_cmd.proofs.ByteTests.{is_end-from, is_end-above, is_earlier_end-from, is_escape_end-from}
@@ -20,13 +21,7 @@ use Rattle.press_cmd.proofs.ByteTests.{is_escape-other, is_control-from, is_cont
 stable-at : (o : Step) (b : ℕ) (x y : List ℕ) (t : Token) (n : ParserState) (left : List ℕ) → after_step o b x (λ s. read_on s x) ≡ Found t n left
     → ((s : State) → read_on s x ≡ Found t n left → read_on s (x ++ y) ≡ Found t n (left ++ y))
     → after_step o b (x ++ y) (λ s. read_on s (x ++ y)) ≡ Found t n (left ++ y)
-stable-at (Goes s) b x y t n left h further = further s h
-stable-at (Gives c m) b x y t n left h further = cc
-stable-at (Stops c) b x y t n left h further =
-    let e : b ∷ x ≡ left = cc in
-    let f : b ∷ (x ++ y) ≡ left ++ y = ap (λ z. z ++ y) e in
-    cc
-stable-at Nothing b x y t n left h further = cc
+stable-at o b x y t n left h further = grind arith
 
 pub stable : (s : State) (x y : List ℕ) (t : Token) (n : ParserState) (left : List ℕ) → read_on s x ≡ Found t n left → read_on s (x ++ y) ≡ Found t n (left ++ y)
 stable s [] y t n left h = cc
@@ -36,16 +31,12 @@ stable s (b ∷ x) y t n left h = stable-at (step s b) b x y t n left h (λ furt
 pub pair_field : (c g : ℕ) (f more z : List ℕ) → is_value_field (f ++ more) ≡ true → read_on (Pair c g f) (more ++ z) ≡ read_on (Pair c g (f ++ more)) z
 pair_field c g f [] z h = rw append-nil refl
 pair_field c g f (b ∷ more) z h =
-    let whole : is_value_field ((f ++ (b ∷ [])) ++ more) ≡ true = rw append_assoc h in
-    let one : extends f b ≡ true = extends-from f b (test-prefix (f ++ (b ∷ [])) more whole) in
-    rw one (pair_field c g (f ++ (b ∷ [])) more z whole ∙ ap (λ w. read_on (Pair c g w) z) (append_assoc f (b ∷ []) more))
+    grind (arith, append_assoc, extends-from, test-prefix, pair_field c g (f ++ (b ∷ [])) more z (rw append_assoc h))
 
 pub single_field : (c : ℕ) (f more z : List ℕ) → is_value_field (f ++ more) ≡ true → read_on (Single c f) (more ++ z) ≡ read_on (Single c (f ++ more)) z
 single_field c f [] z h = rw append-nil refl
 single_field c f (b ∷ more) z h =
-    let whole : is_value_field ((f ++ (b ∷ [])) ++ more) ≡ true = rw append_assoc h in
-    let one : extends f b ≡ true = extends-from f b (test-prefix (f ++ (b ∷ [])) more whole) in
-    rw one (single_field c (f ++ (b ∷ [])) more z whole ∙ ap (λ w. read_on (Single c w) z) (append_assoc f (b ∷ []) more))
+    grind (arith, append_assoc, extends-from, test-prefix, single_field c (f ++ (b ∷ [])) more z (rw append_assoc h))
 
 -- data is read byte by byte
 pair_data : (c g : ℕ) (f : List ℕ) (e : ℕ) (next : ParserState) (n : ℕ) (d more z : List ℕ) → length more ≡ suc n
@@ -54,8 +45,7 @@ pair_data c g f e next zero d [] z h = absurd (omega arith)
 pair_data c g f e next zero d (b ∷ []) z h = refl
 pair_data c g f e next zero d (b ∷ a ∷ more) z h = absurd (omega arith)
 pair_data c g f e next (suc n) d [] z h = absurd (omega arith)
-pair_data c g f e next (suc n) d (b ∷ more) z h =
-    pair_data c g f e next n (d ++ (b ∷ [])) more z (omega arith) ∙ ap (λ w. Found (Grouped c g f e w) next z) (append_assoc d (b ∷ []) more)
+pair_data c g f e next (suc n) d (b ∷ more) z h = grind (arith, append_assoc, pair_data c g f e next n (d ++ (b ∷ [])) more z (omega arith))
 
 single_data : (c : ℕ) (f : List ℕ) (e : ℕ) (n : ℕ) (d more z : List ℕ) → length more ≡ suc n
     → read_on (SingleData c f e n d) (more ++ z) ≡ Found (Ungrouped c f e (d ++ more)) Pcl z
@@ -63,8 +53,7 @@ single_data c f e zero d [] z h = absurd (omega arith)
 single_data c f e zero d (b ∷ []) z h = refl
 single_data c f e zero d (b ∷ a ∷ more) z h = absurd (omega arith)
 single_data c f e (suc n) d [] z h = absurd (omega arith)
-single_data c f e (suc n) d (b ∷ more) z h =
-    single_data c f e n (d ++ (b ∷ [])) more z (omega arith) ∙ ap (λ w. Found (Ungrouped c f e w) Pcl z) (append_assoc d (b ∷ []) more)
+single_data c f e (suc n) d (b ∷ more) z h = grind (arith, append_assoc, single_data c f e n (d ++ (b ∷ [])) more z (omega arith))
 
 pair_rest : (c g : ℕ) (f : List ℕ) (e : ℕ) (next : ParserState) (count b : ℕ) (d z : List ℕ) → length d ≡ count
     → after_step (pair_with c g f e next count) b (d ++ z) (λ s. read_on s (d ++ z)) ≡ Found (Grouped c g f e d) next z
@@ -88,27 +77,12 @@ pair_lower : (c g : ℕ) (f : List ℕ) (b : ℕ) (d z : List ℕ) → IsEarlier
 pair_lower c g f b d z is count =
     rw (extends-past f b (omega arith), is_end-above b (omega arith), is_earlier_end-from b is) (pair_rest c g f (b - 32) (Open c g) _ b d z count)
 
-pair_end : (c g : ℕ) (f : List ℕ) (e b : ℕ) (d : List ℕ) (next : ParserState) (z : List ℕ) → Ends c g b e next → length d ≡ data_count c (Some g) f e
-    → read_on (Pair c g f) (b ∷ (d ++ z)) ≡ Found (Grouped c g f e d) next z
-pair_end c g f e b d next z (inl is) count =
-    let same : length d ≡ data_count c (Some g) f b = count ∙ ap (data_count c (Some g) f) is.1 in
-    let found = pair_upper c g f b d z is.0 same in
-    cc (found, is.1, is.2)
-pair_end c g f e b d next z (inr is) count =
-    let below : e ≡ b - 32 = omega arith in
-    let same : length d ≡ data_count c (Some g) f (b - 32) = count ∙ ap (data_count c (Some g) f) below in
-    let found = pair_lower c g f b d z is.0 same in
-    cc (found, below, is.2)
-
 -- A pair is read, whatever follows it.
 pub pair_reads : (c g : ℕ) (w f : List ℕ) (e : ℕ) (d : List ℕ) (next : ParserState) (z : List ℕ) → IsPair c g w (value_pair f e d) next
     → read_on (Pair c g []) (w ++ z) ≡ Found (Grouped c g f e d) next z
 pair_reads c g w f e d next z p =
     let field : is_value_field f ≡ true = test-from_IsField f p.value_field in
-    ap (λ bytes. read_on (Pair c g []) (bytes ++ z)) p.spelled
-    ∙ ap (read_on (Pair c g [])) (append_assoc f (p.byte ∷ d) z)
-    ∙ pair_field c g [] f (p.byte ∷ (d ++ z)) field
-    ∙ pair_end c g f e p.byte d next z p.ends p.count
+    grind (arith, p.spelled, append_assoc f (p.byte ∷ d) z, pair_field c g [] f (p.byte ∷ (d ++ z)) field, pair_upper, common_steps, pair_lower, p.ends, p.count)
 
 -- a sequence without group is read, whatever follows it
 single_upper : (c : ℕ) (f : List ℕ) (b : ℕ) (d z : List ℕ) → IsEnd b → length d ≡ data_count c None f b → (d ≡ [] → is_exit c f b ≡ false)
@@ -156,32 +130,11 @@ start mode = Start
 
 -- Reading finds each whole command, whatever follows it.
 pub whole_reads : (m : ParserState) (u : List ℕ) (t : Token) (n : ParserState) (z : List ℕ) → Whole m u t n → read_on (start m) (u ++ z) ≡ Found t n z
-whole_reads Pcl u (Escape b) n z w =
-    ap (λ bytes. read_on Start (bytes ++ z)) w.1 ∙ rw (is_escape-from escape_byte refl, is_escape_end-from b w.0) (ap (λ mode. Found (Escape b) mode z) (sym w.2))
+whole_reads Pcl u (Escape b) n z w = cc (is_escape-from escape_byte refl, is_escape_end-from b w.0)
 whole_reads Pcl u (Grouped c g f e d) n z w = grouped_reads u c g f e d n z w
-whole_reads Pcl u (Ungrouped c f e d) n z w = single_reads u c f e d z w.0 ∙ ap (λ mode. Found (Ungrouped c f e d) mode z) (sym w.1)
-whole_reads Pcl u (Control b) n z w =
-    ap (λ bytes. read_on Start (bytes ++ z)) w.1 ∙ rw (is_escape-other b w.0.1, is_control-from b w.0.0) (ap (λ mode. Found (Control b) mode z) (sym w.2))
-whole_reads Pcl u (Text b) n z w =
-    ap (λ bytes. read_on Start (bytes ++ z)) w.1
-    ∙ rw (is_escape-other b (λ e. absurd (omega (arith, w.0))), is_control-above b w.0.0, is_text-from b w.0) (ap (λ mode. Found (Text b) mode z) (sym w.2))
-whole_reads Pcl u (Broken b) n z w = absurd w
-whole_reads Pcl u Uel n z w = ap (λ bytes. read_on Start (bytes ++ z)) w.0 ∙ uel_reads z ∙ ap (λ mode. Found Uel mode z) (sym w.1)
-whole_reads Pcl u (PjlLine l) n z w = absurd w
-whole_reads Pcl u (ForeignByte b) n z w = absurd w
-whole_reads (Open c' g') u (Grouped c g f e d) n z w =
-    ap (λ bytes. read_on (Pair c' g' []) (bytes ++ z)) refl ∙ pair_reads c' g' u f e d n z w.2 ∙ cc (w.0, w.1)
-whole_reads (Open c' g') u (Escape b) n z w = absurd w
-whole_reads (Open c' g') u (Ungrouped c f e d) n z w = absurd w
-whole_reads (Open c' g') u (Control b) n z w = absurd w
-whole_reads (Open c' g') u (Text b) n z w = absurd w
-whole_reads (Open c' g') u (Broken b) n z w = absurd w
-whole_reads (Open c' g') u Uel n z w = absurd w
-whole_reads (Open c' g') u (PjlLine l) n z w = absurd w
-whole_reads (Open c' g') u (ForeignByte b) n z w = absurd w
-whole_reads Exit u (Escape b) n z w = absurd w
-whole_reads Exit u _ n z w = absurd w
-whole_reads OverlongLine u (Escape b) n z w = absurd w
-whole_reads OverlongLine u _ n z w = absurd w
-whole_reads OtherLanguage u (Escape b) n z w = absurd w
-whole_reads OtherLanguage u _ n z w = absurd w
+whole_reads Pcl u (Ungrouped c f e d) n z w = grind (arith, single_reads u c f e d z w.0, w.1)
+whole_reads Pcl u (Control b) n z w = cc (is_escape-other b w.0.1, is_control-from b w.0.0)
+whole_reads Pcl u (Text b) n z w = grind (arith, is_text-from, is_escape-other, is_control-above)
+whole_reads Pcl u Uel n z w = grind (arith, w.0, uel_reads z, w.1)
+whole_reads (Open c' g') u (Grouped c g f e d) n z w = cc (pair_reads c' g' u f e d n z w.2)
+whole_reads _ u _ n z w = absurd w

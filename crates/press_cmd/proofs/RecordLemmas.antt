@@ -41,29 +41,17 @@ first-of command commands sound =
 
 first-in : (commands : List Token) → AllByRecursion IsSound commands → (bytes : List ℕ) → bytes ≡ encoded commands → (length bytes == 0) ≡ false
     → First bytes commands (length (encoded (take 1 commands)))
-first-in [] sound bytes spelled some = let none = sym (ap (λ list. length list == 0) spelled) ∙ some in absurd (cc)
-first-in (command ∷ commands) sound bytes spelled some =
-    let first = subst (First (encoded (command ∷ commands)) (command ∷ commands)) (ap length (sym (append-nil (record_of command)))) (first-of command commands sound.0) in
-    subst (λ list. First list (command ∷ commands) (length (encoded (command ∷ [])))) (sym spelled) first
+first-in commands sound bytes spelled some = grind (arith, first-of, append-nil)
 
 pub first-record : (bytes : List ℕ) (records : AreRecords bytes) → (empty : Bool) → empty ≡ (length bytes == 0) → empty ≡ false → (count : ℕ) → count ≡ length (encoded (take 1 records.commands))
     → First bytes records.commands count
-first-record bytes records empty tested none count is =
-    subst (First bytes records.commands) (sym is) (first-in records.commands records.sound bytes records.spelled (sym tested ∙ none))
+first-record bytes records empty tested none count is = grind (arith, first-in)
 
 -- ---- behind the first record
 
 pub used-up : (commands : List Token) → IsTrue (length (encoded commands) == 0) ↔ (commands ≡ [])
 used-up [] = (λ _. refl, λ _. refl)
 used-up (command ∷ commands) = (λ none. absurd (grind arith), λ none. absurd (cc))
-
-split-first : (commands : List Token) → encoded commands ≡ encoded (take 1 commands) ++ encoded (drop 1 commands)
-split-first [] = refl
-split-first (command ∷ commands) = ap (λ front. front ++ encoded commands) (sym (append-nil (record_of command)))
-
-sound-behind : (commands : List Token) → AllByRecursion IsSound commands → AllByRecursion IsSound (drop 1 commands)
-sound-behind [] sound = sound
-sound-behind (command ∷ commands) sound = sound.1
 
 -- the records of the other commands stand at this place
 pub record Behind (all : List ℕ) (place : ℕ) (commands : List Token) : Type 0 where
@@ -76,21 +64,19 @@ pub behind-first : (all : List ℕ) (place : ℕ) (left : AreRecords (drop place
 behind-first all place left within bytes is count counted =
     let first = encoded (take 1 left.commands) in
     let others = encoded (drop 1 left.commands) in
-    let parts : drop place all ≡ first ++ others = left.spelled ∙ split-first left.commands in
+    let parts : drop place all ≡ first ++ others = left.spelled ∙ grind (arith, append-nil) in
     let same = counted (record { commands = left.commands; spelled = is ∙ left.spelled; sound = left.sound }) in
     record {
       within = omega (arith, within, same, length-drop place all, ap length parts, length-append first others);
-      spelled = sym (drop-drop count place all) ∙ (λ i. drop (same i) (parts i)) ∙ drop-append_seam first others;
-      sound = sound-behind left.commands left.sound;
+      spelled = grind (arith, same, parts, drop-drop count place all, drop-append_seam first others);
+      sound = grind (arith, left.sound);
     }
 
 -- ---- a further record
 
 encoded-append : (commands : List Token) (command : Token) → encoded (commands ++ (command ∷ [])) ≡ encoded commands ++ record_of command
 encoded-append [] command = append-nil (record_of command)
-encoded-append (first ∷ commands) command =
-    ap (λ rest. record_of first ++ rest) (encoded-append commands command)
-    ∙ sym (append_assoc (record_of first) (encoded commands) (record_of command))
+encoded-append (first ∷ commands) command = grind (arith, append_assoc, encoded-append commands command)
 
 pub sound-more : (commands : List Token) (command : Token) → AllByRecursion IsSound commands → IsSound command → AllByRecursion IsSound (commands ++ (command ∷ []))
 sound-more [] command all one = (one, tt)
@@ -98,8 +84,7 @@ sound-more (first ∷ commands) command all one = (all.0, sound-more commands co
 
 pub spelled-more : {bytes new : List ℕ} (records : AreRecords bytes) (command : Token) → new ≡ bytes ++ record_of command
     → new ≡ encoded (records.commands ++ (command ∷ []))
-spelled-more records command appended =
-    appended ∙ ap (λ front. front ++ record_of command) records.spelled ∙ sym (encoded-append records.commands command)
+spelled-more records command appended = grind (arith, encoded-append)
 
 pub pushed-records : {T E : Type 0} (r : Result T E) {bytes new : List ℕ} (command : Token) → AreRecords bytes → IsSound command
     → OnOk r (new ≡ bytes ++ record_of command) → OnErr r (new ≡ bytes) → AreRecords new
@@ -112,9 +97,7 @@ pushed-records (Ok _) command records sound appended same =
 pushed-records (Err _) command records sound appended same = subst AreRecords (sym same) records
 
 pub OnErr-map : {X E : Type 0} (r : Result X E) (P Q : Type 0) → (P → Q) → OnErr r P → OnErr r Q
-OnErr-map (Ok _) P Q f h = tt
-OnErr-map (Err _) P Q f h = f h
+OnErr-map r P Q f h = grind arith
 
 pub OnOk-map : {X E : Type 0} (r : Result X E) (P Q : Type 0) → (P → Q) → OnOk r P → OnOk r Q
-OnOk-map (Ok _) P Q f h = f h
-OnOk-map (Err _) P Q f h = tt
+OnOk-map r P Q f h = grind arith

@@ -1,25 +1,19 @@
 -- Laws of splits.
 use Rattle.std.proofs.Common.{◌≡◌, ◌<◌, ◌≤◌, ◌∙◌, ℕ, zero, suc, List, [], ◌∷◌, ◌++◌, length, refl, sym, ap, subst, arith, append_assoc, length-append}
 use Rattle.press_cmd.specs.Token.{Token}
-use Rattle.press_cmd.specs.ParserState.{ParserState, Exit, OverlongLine, OtherLanguage, Pcl, Open}
+use Rattle.press_cmd.specs.ParserState.{ParserState}
 use Rattle.press_cmd.specs.Grammar.{Head}
 use Rattle.press_cmd.specs.Split.{Steps, NoHead, SplitFrom, ClosedFrom, closing}
 use Rattle.press_cmd.proofs.Reading.{Reading, Short, Found, reading}
 use Rattle.press_cmd.proofs.ReadHead.{read_head}
 use Rattle.press_cmd.proofs.Heads.{one_head, short-NoHead, head-some, head-more}
 
--- the front of the bytes moved along equations
-no_head-along : (m m' : ParserState) (x x' : List ℕ) → m ≡ m' → x ≡ x' → NoHead m' x' → NoHead m x
-no_head-along m m' x x' em ex h = subst (λ (k : ParserState). NoHead k x) (sym em) (subst (λ (y : List ℕ). NoHead m' y) (sym ex) h)
-
 -- At most one split.
 pub one_split : (m : ParserState) (x : List ℕ) (cs cs' : List Token) (k k' : ParserState) (r r' : List ℕ)
     → SplitFrom m x cs k r → SplitFrom m x cs' k' r' → (cs ≡ cs') × (k ≡ k') × (r ≡ r')
 one_split m x [] [] k k' r r' s s' = (refl, sym s.steps.0 ∙ s'.steps.0, sym s.steps.1 ∙ s'.steps.1)
-one_split m x [] (c ∷ cs') k k' r r' s s' =
-    absurd (no_head-along m k x r s.steps.0 s.steps.1 s.short s'.steps.0 s'.steps.1 c s'.steps.2 s'.steps.3 s'.steps.4)
-one_split m x (c ∷ cs) [] k k' r r' s s' =
-    absurd (no_head-along m k' x r' s'.steps.0 s'.steps.1 s'.short s.steps.0 s.steps.1 c s.steps.2 s.steps.3 s.steps.4)
+one_split m x [] (c ∷ cs') k k' r r' s s' = grind arith
+one_split m x (c ∷ cs) [] k k' r r' s s' = grind arith
 one_split m x (c ∷ cs) (c' ∷ cs') k k' r r' s s' =
     let h = s.steps in
     let h' = s'.steps in
@@ -32,29 +26,24 @@ one_split m x (c ∷ cs) (c' ∷ cs') k k' r r' s s' =
 -- steps stay steps, whatever is put after the bytes
 pub steps-more : (m : ParserState) (x y : List ℕ) (cs : List Token) (k : ParserState) (r : List ℕ) → Steps m x cs k r → Steps m (x ++ y) cs k (r ++ y)
 steps-more m x y [] k r s = (s.0, ap (λ z. z ++ y) s.1)
-steps-more m x y (c ∷ cs) k r s =
-    (s.0, s.1 ++ y, s.2, ap (λ z. z ++ y) s.3 ∙ append_assoc s.0 s.1 y, head-more m s.0 s.1 y c s.2 s.4, steps-more s.2 s.1 y cs k r s.5)
+steps-more m x y (c ∷ cs) k r s = grind (arith, append_assoc s.0 s.1 y, head-more m s.0 s.1 y c s.2 s.4, steps-more s.2 s.1 y cs k r s.5)
 
 -- steps, and then steps over what they leave
 pub steps-then : (m : ParserState) (x : List ℕ) (cs cs' : List Token) (k k' : ParserState) (r r' : List ℕ)
     → Steps m x cs k r → Steps k r cs' k' r' → Steps m x (cs ++ cs') k' r'
-steps-then m x [] cs' k k' r r' s s' =
-    subst (λ (n : ParserState). Steps n x cs' k' r') (sym s.0) (subst (λ (z : List ℕ). Steps k z cs' k' r') (sym s.1) s')
+steps-then m x [] cs' k k' r r' s s' = grind arith
 steps-then m x (c ∷ cs) cs' k k' r r' s s' = (s.0, s.1, s.2, s.3, s.4, steps-then s.2 s.1 cs cs' k k' r r' s.5 s')
 
 -- The cutting law: the split of x then y is the commands of x, then the split, from x's mode, of x's rest followed by y.
 pub split-append : (m : ParserState) (x y : List ℕ) (cs cs' : List Token) (k k' : ParserState) (r r' : List ℕ)
     → SplitFrom m x cs k r → SplitFrom k (r ++ y) cs' k' r' → SplitFrom m (x ++ y) (cs ++ cs') k' r'
-split-append m x y cs cs' k k' r r' s s' =
-    record { steps = steps-then m (x ++ y) cs cs' k k' (r ++ y) r' (steps-more m x y cs k r s.steps) s'.steps; short = s'.short }
+split-append m x y cs cs' k k' r r' s h2 = search (arith, steps-then, steps-more)
 
 -- ---- closed splits
 
 -- Bytes are closed by one list of commands.
 pub closed_once : (from : ParserState) (bytes : List ℕ) (one other : List Token) → ClosedFrom from bytes one → ClosedFrom from bytes other → one ≡ other
-closed_once from bytes one other first second =
-    let same = one_split from bytes first.0 second.0 first.1 second.1 first.2 second.2 first.3 second.3 in
-    first.4 ∙ (λ j. same.0 j ++ closing (same.1 j) (same.2 j)) ∙ sym second.4
+closed_once from bytes one other first second = grind (arith, one_split)
 
 -- A command in front of what closes the rest.
 pub closed-cons : (from : ParserState) (used left : List ℕ) (command : Token) (next : ParserState) (commands : List Token)
@@ -100,11 +89,7 @@ some_split m x = some_split-below (suc (length x)) m x (omega arith)
 
 -- Nothing closes nothing.
 pub closing-nothing : (mode : ParserState) → closing mode [] ≡ []
-closing-nothing Exit = refl
-closing-nothing OverlongLine = refl
-closing-nothing OtherLanguage = refl
-closing-nothing Pcl = refl
-closing-nothing (Open character group) = refl
+closing-nothing mode = grind arith
 
 pub no_head_of_nothing : (mode : ParserState) → NoHead mode []
 no_head_of_nothing mode [] left command next e head = head-some mode [] left command next head refl

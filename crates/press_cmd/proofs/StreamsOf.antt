@@ -1,6 +1,6 @@
 -- Each command of the code is one of some stream.
 use Rattle.std.proofs.Common.{◌≡◌, ◌<◌, ◌≤◌, ◌+◌, ◌∙◌, ℕ, zero, suc, List, [], ◌∷◌, ◌++◌, length, true, cond, Option, Some}
-use Rattle.std.proofs.Common.{None, refl, sym, ap, subst, inl, inr, arith, length-append, eqb, replicate, lit<, lit≤}
+use Rattle.std.proofs.Common.{None, refl, sym, ap, subst, inl, inr, arith, eqb, replicate, lit<, lit≤}
 use Rattle.std.specs.Prelude.{codes}
 use Rattle.std.specs.List.{list_all}
 use Rattle.std.proofs.lemmas.List.{append-nil, length-replicate}
@@ -8,17 +8,17 @@ use Rattle.std.proofs.lemmas.Bool.{ne_eqb, le-ltb, cases_eq, cases_lt}
 use mathlib.Core.Logic.{∥∥₁_map}
 use Rattle.press_cmd.specs.Token.{Token, Escape, Grouped, Ungrouped, Control, Text, Broken, Uel, PjlLine, ForeignByte, bytes_of, param_of, broken_of, uel, escape_byte, pjl_mark}
 use Rattle.press_cmd.specs.ParserState.{ParserState, Exit, OverlongLine, OtherLanguage, Pcl}
-use Rattle.press_cmd.specs.Grammar.{Whole, Head, Stands, GoesOn, IsPjlLine, BeginsLine, IsBroken, is_line_byte, differs, longest_line, scanned_in}
+use Rattle.press_cmd.specs.Grammar.{Whole, Head, GoesOn, IsPjlLine, BeginsLine, IsBroken, is_line_byte, differs, longest_line}
 use Rattle.press_cmd.specs.Language.{mode_after}
 use Rattle.press_cmd.specs.Split.{closing}
-use Rattle.press_cmd.proofs.Reading.{Reading, Short, Found, reading, read_on, read_line, Start, is_escape}
+use Rattle.press_cmd.proofs.Reading.{Reading, Short, Found, reading, read_on, Start, is_escape}
 use Rattle.press_cmd.specs.Streams.{IsCommand}
 use Rattle.press_cmd.specs.View.{token}
 use Rattle.press_cmd.specs.declared.command.Command.{Command}
 use Rattle.press_cmd.specs.declared.command.Command.TheVariants as commands
 use Rattle.press_cmd.proofs.ReadWhole.{whole_reads, stable}
 use Rattle.press_cmd.proofs.ReadLine.{line_prefix}
-use Rattle.press_cmd.proofs.Heads.{no_end, short-NoHead, begins-differs}
+use Rattle.press_cmd.proofs.Heads.{no_end, short-NoHead}
 use Rattle.press_cmd.proofs.Splits.{closing-nothing, no_head_of_nothing}
 use Rattle.press_cmd.proofs.LineTest.{IsPjlLine-known}
 use Rattle.press_cmd.proofs.ReadBack.{param-Whole, line-Head}
@@ -46,16 +46,11 @@ rest_command : (u : List ℕ) (t : Token) → reading Exit u ≡ Short → closi
 rest_command u t short stands =
     (u, t ∷ [], ([], Exit, u, record { steps = (refl, refl); short = short-NoHead Exit u short }, sym stands), (0, lit< tt, refl))
 
--- a byte other than the first of `@PJL` leaves mode Exit
-pcl-Head : (b : ℕ) (x : List ℕ) (t : Token) (n : ParserState) → (b ≡ 64 → ⊥) → Stands Pcl (b ∷ x) [] t n → Head Exit (b ∷ x) [] t n
-pcl-Head b x t n other h =
-    subst (λ (k : ParserState). Stands k (b ∷ x) [] t n) (ap (λ d. cond (cond d (differs (80 ∷ 74 ∷ 76 ∷ []) (x ++ [])) true) Pcl Exit) (sym (ne_eqb 64 b (λ e. other (sym e))))) h
-
 text-IsCommand : (b : ℕ) → (32 ≤ b) × (b ≤ 255) → IsCommand (Text b)
 text-IsCommand b class =
     elim (cases_eq b 64) [
       | inl e ↦ subst (λ (x : ℕ). IsCommand (Text x)) (sym e) (rest_command (64 ∷ []) (Text 64) refl refl)
-      | inr other ↦ one_command (b ∷ []) (Text b) Pcl (pcl-Head b [] (Text b) Pcl other (class, refl, refl))
+      | inr other ↦ one_command (b ∷ []) (Text b) Pcl (grind (arith, class, refl, refl))
     ]
 
 param-IsCommand : (c : ℕ) (g : Option ℕ) (f : List ℕ) (e : ℕ) (d : List ℕ) → Whole Pcl (bytes_of (param_of c g f e d)) (param_of c g f e d) Pcl → IsCommand (param_of c g f e d)
@@ -100,13 +95,8 @@ foreign-IsCommand b =
 
 -- ---- broken bytes
 
--- a line that is cut off where 4,096 bytes of it stand, or where the stream ends
-full-Head : (u : List ℕ) → BeginsLine u → length u ≡ longest_line → (v : List ℕ) → Head Exit u v (Broken u) OverlongLine
-full-Head u is full v =
-    subst (λ (k : ParserState). Stands k u v (Broken u) OverlongLine) (ap (λ d. cond d Pcl Exit) (sym (begins-differs u v is))) (refl, (is, inr (full, refl)))
-
 short-line : (text : List ℕ) → list_all is_line_byte text ≡ true → 4 + length text < longest_line → reading Exit (pjl_mark ++ text) ≡ Short
-short-line text plain short = ap (λ x. read_line pjl_mark x) (sym (append-nil text)) ∙ line_prefix pjl_mark text [] plain (omega arith)
+short-line text plain short = grind (arith, append-nil text, line_prefix pjl_mark text [] plain (omega arith))
 
 line-closing : (text : List ℕ) → closing Exit (pjl_mark ++ text) ≡ Broken (pjl_mark ++ text) ∷ []
 line-closing text = rw (le-ltb (length (pjl_mark ++ text)) 4 (omega arith)) refl
@@ -116,7 +106,7 @@ line-IsCommand u is fits =
     elim (cases_lt (length u) longest_line) [
       | inl short ↦ subst (λ (x : List ℕ). IsCommand (Broken x)) (sym is.mark)
           (rest_command (pjl_mark ++ is.text) (Broken (pjl_mark ++ is.text)) (short-line is.text is.plain (omega (arith, ap length is.mark))) (line-closing is.text))
-      | inr full ↦ one_command u (Broken u) OverlongLine (full-Head u is (omega arith) [])
+      | inr full ↦ one_command u (Broken u) OverlongLine (grind arith)
     ]
 
 -- a line of 4,096 bytes
@@ -135,11 +125,6 @@ long_line-length : length long_line ≡ longest_line
 unfolding long_line
 long_line-length = ap (λ n. suc (suc (suc (suc n)))) (length-replicate {A = ℕ} 4092 0)
 
-tail-Head : (b : ℕ) → (b ≡ 27 → ⊥) → Head OverlongLine (b ∷ []) [] (Broken (b ∷ [])) (cond (eqb b 10) Exit OverlongLine)
-tail-Head b other =
-    subst (λ (k : ParserState). Stands k (b ∷ []) [] (Broken (b ∷ [])) (cond (eqb b 10) Exit OverlongLine))
-    (ap (λ d. cond d (scanned_in Exit (b ∷ [])) OverlongLine) (sym (ne_eqb b 27 other))) (refl, (b, refl, refl))
-
 escape-Short : reading Exit (27 ∷ []) ≡ Short
 unfolding is_escape
 escape-Short = refl
@@ -149,43 +134,24 @@ byte-IsCommand b =
     elim (cases_eq b 27) [
       | inl e ↦ subst (λ (x : ℕ). IsCommand (Broken (x ∷ []))) (sym e) (rest_command (27 ∷ []) (Broken (27 ∷ [])) escape-Short refl)
       | inr other ↦ second_command long_line (b ∷ []) (Broken long_line) (Broken (b ∷ [])) OverlongLine (cond (eqb b 10) Exit OverlongLine)
-          (full-Head long_line long_line-BeginsLine long_line-length (b ∷ [])) (tail-Head b other)
+          (grind (arith, long_line-BeginsLine, long_line-length)) (grind arith)
     ]
 
 -- what goes on begins with the escape character
 pub goes_on-escape : (b : ℕ) (u : List ℕ) (x : ℕ) (more : List ℕ) (t : Token) (n : ParserState) → Whole Pcl ((b ∷ u) ++ (x ∷ more)) t n → b ≡ 27
-goes_on-escape b u x more (Escape e) n w = cc (w.1)
-goes_on-escape b u x more (Grouped c g f e d) n w = cc (w.spelled)
-goes_on-escape b u x more (Ungrouped c f e d) n w = cc (w.0.spelled)
-goes_on-escape b u x more (Control c) n w = absurd (no_end u x more (tail_of w.1))
-  where
-    tail_of : b ∷ (u ++ (x ∷ more)) ≡ c ∷ [] → u ++ (x ∷ more) ≡ []
-    tail_of h = cc
-goes_on-escape b u x more (Text c) n w = absurd (no_end u x more (tail_of w.1))
-  where
-    tail_of : b ∷ (u ++ (x ∷ more)) ≡ c ∷ [] → u ++ (x ∷ more) ≡ []
-    tail_of h = cc
-goes_on-escape b u x more (Broken c) n w = absurd w
-goes_on-escape b u x more Uel n w = cc (w.0)
-goes_on-escape b u x more (PjlLine c) n w = absurd w
-goes_on-escape b u x more (ForeignByte c) n w = absurd w
+goes_on-escape b u x more t n w = grind (arith, no_end)
 
 unfinished-at : (u : List ℕ) (x : ℕ) (more : List ℕ) (t : Token) (n : ParserState) (a : Reading) → Whole Pcl (u ++ (x ∷ more)) t n → read_on Start u ≡ a → a ≡ Short
 unfinished-at u x more t n Short w e = refl
 unfinished-at u x more t n (Found t' n' left) w e =
-    let whole : read_on Start (u ++ (x ∷ more)) ≡ Found t n [] = ap (read_on Start) (sym (append-nil (u ++ (x ∷ more)))) ∙ whole_reads Pcl (u ++ (x ∷ more)) t n [] w in
-    let part : read_on Start (u ++ (x ∷ more)) ≡ Found t' n' (left ++ (x ∷ more)) = stable Start u (x ∷ more) t' n' left e in
-    let same : Found t n [] ≡ Found t' n' (left ++ (x ∷ more)) = sym whole ∙ part in
-    let nothing : [] ≡ left ++ (x ∷ more) = cc in
-    absurd (omega (arith, ap length nothing, length-append left (x ∷ more)))
+    grind (arith, append-nil (u ++ (x ∷ more)), whole_reads Pcl (u ++ (x ∷ more)) t n [] w, stable Start u (x ∷ more) t' n' left e, no_end left x more)
 
 cut-IsCommand : (u : List ℕ) → (u ≡ [] → ⊥) → GoesOn Pcl u → IsCommand (Broken u)
 cut-IsCommand [] some_ on = absurd (some_ refl)
 cut-IsCommand (b ∷ u) some_ on =
     let escape = goes_on-escape b u on.0 on.1 on.2 on.3 on.4 in
     let short : read_on Start (b ∷ u) ≡ Short = unfinished-at (b ∷ u) on.0 on.1 on.2 on.3 _ on.4 refl in
-    let P : ℕ → Type 0 = λ x. IsCommand (Broken (x ∷ u)) in
-    subst P (sym escape) (rest_command (27 ∷ u) (Broken (27 ∷ u)) (ap (λ x. read_on Start (x ∷ u)) (sym escape) ∙ short) refl)
+    rw escape (rest_command (27 ∷ u) (Broken (27 ∷ u)) (ap (λ x. read_on Start (x ∷ u)) (sym escape) ∙ short) refl)
 
 broken-IsCommand : (bytes : List ℕ) → IsBroken bytes → IsCommand (Broken bytes)
 broken-IsCommand [] (inl h) = absurd (omega arith)
@@ -205,7 +171,7 @@ of_some_stream (commands.Param p) =
     ∣ param-IsCommand p.character p.group p.field.now p.end p.payload.now
     (param-Whole p.character p.group p.field.now p.end p.payload.now p.character_class p.group_class p.value_field p.end_class p.count p.no_exit) ∣₁
 of_some_stream (commands.Control b) =
-    ∣ one_command (b.byte ∷ []) (Control b.byte) Pcl (pcl-Head b.byte [] (Control b.byte) Pcl (λ e. absurd (omega (arith, b.class.0))) (b.class, refl, refl)) ∣₁
+    ∣ one_command (b.byte ∷ []) (Control b.byte) Pcl (grind (arith, b.class, refl, refl)) ∣₁
 of_some_stream (commands.Text b) = ∣ text-IsCommand b.byte b.class ∣₁
 of_some_stream (commands.Broken broken) = broken-command broken.sequence broken.bytes.now broken.broken
 of_some_stream commands.Uel = ∣ one_command uel Uel Exit (refl, refl) ∣₁

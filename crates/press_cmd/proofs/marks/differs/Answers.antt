@@ -1,4 +1,5 @@
-use Rattle.std.proofs.Common.{◌≡◌, ◌≤◌, ◌∙◌, ℕ, List, [], ◌∷◌, length, drop, false, refl, sym, ap}
+use Rattle.std.proofs.Common.{arith}
+use Rattle.std.proofs.Common.{◌≡◌, ◌≤◌, ℕ, List, [], ◌∷◌, length, drop, false, refl, sym}
 use Rattle.std.proofs.lemmas.List.{drop_all}
 use Rattle.std.proofs.lemmas.Bool.{ltb-false}
 use Rattle.press_cmd.specs.Grammar.{differs}
@@ -11,6 +12,4 @@ differs-nothing (byte ∷ text) = refl
 pub returns-in-None : goal.returns-in-None
 returns-in-None c =
     let past : length c.args.bytes.now ≤ c.loop-place.place = ltb-false _ _ (sym c.in-None.ensures.lookup.0) in
-    sym (c.loop-place.invariant
-    ∙ ap (differs (drop c.loop-place.place c.args.text.now)) (drop_all c.loop-place.place c.args.bytes.now past)
-    ∙ differs-nothing (drop c.loop-place.place c.args.text.now))
+    grind (arith, c.loop-place.invariant, drop_all c.loop-place.place c.args.bytes.now past, differs-nothing (drop c.loop-place.place c.args.text.now))

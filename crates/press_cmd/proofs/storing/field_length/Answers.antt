@@ -1,7 +1,6 @@
-use Rattle.std.proofs.Common.{◌∙◌, ap, length}
-use Rattle.std.specs.Option.{unwrap_or}
-use Rattle.press_cmd.proofs.ReadParam.{end-place}
+use Rattle.std.proofs.lemmas.List.Sums.{prefix_len-le-length}
+use Rattle.std.proofs.Common.{arith}
 use Rattle.press_cmd.proofs.storing.field_length.Goals as goal
 
 pub returns : goal.returns
-returns c = c.unwrap_or.ensures ∙ ap (λ place. unwrap_or place (length c.args.bytes.now)) c.end_place.ensures ∙ end-place c.args.bytes.now
+returns c = grind (arith, c.unwrap_or.ensures, c.end_place.ensures, prefix_len-le-length)
