@@ -4,13 +4,12 @@ use Rattle.std.specs.Prelude.{◌==◌, not, nat_lt, if◌then◌else◌, slice_
 use Rattle.std.specs.List.{AllByRecursion, list_all}
 use Rattle.std.proofs.Math.Seq.{take-suc}
 use Rattle.std.proofs.lemmas.List.{map-append, length-map, take-append-drop, drop-drop}
-use Rattle.std.proofs.lemmas.Bool.{and_parts, ltb-true, ltb-false, ne_eqb}
+use Rattle.std.proofs.lemmas.Bool.{and_parts, ne_eqb}
 use Rattle.press_cmd.specs.Token.{Token, Control, Text, ForeignByte, escape_byte, uel}
 use Rattle.press_cmd.specs.Kinds.{kind_of}
 use Rattle.press_cmd.specs.declared.variant.Kind.{Kind}
 use Rattle.press_cmd.specs.ParserState.{ParserState, Exit, OverlongLine, OtherLanguage, Pcl, Open}
 use Rattle.press_cmd.specs.Grammar.{Head, Whole, differs}
-use Rattle.press_cmd.proofs.ByteTests.{range-true}
 use Rattle.press_cmd.proofs.Splits.{closed-cons}
 use Rattle.press_scan.specs.Gives.{Passes}
 use Rattle.press_scan.specs.Passing.{PassesEach, IsOneByte, PassesOver, is_plain, byte_command, ArePlain}
@@ -23,17 +22,7 @@ not_escape byte other is = absurd (cc)
 -- a byte that is no escape character is a command of PCL
 pcl_byte : (controls : Bool) (byte : ℕ) (low : Bool) → nat_lt byte 32 ≡ low → is_plain controls byte ≡ true
     → Whole Pcl (byte ∷ []) (if low then Control byte else Text byte) Pcl × IsOneByte controls (if low then Control byte else Text byte)
-pcl_byte false byte true low plain =
-    let range = range-true 32 255 byte plain in
-    absurd (omega (arith, range.0, ltb-true byte 32 low))
-pcl_byte false byte false low plain = ((range-true 32 255 byte plain, refl, refl), tt)
-pcl_byte true byte true low plain =
-    let parts = and_parts _ _ plain in
-    (((ltb-true byte 32 low, not_escape byte parts.1), refl, refl), refl)
-pcl_byte true byte false low plain =
-    let parts = and_parts _ _ plain in
-    let range = range-true 0 255 byte parts.0 in
-    (((ltb-false byte 32 low, range.1), refl, refl), tt)
+pcl_byte controls byte low h1 plain = grind arith
 
 module _ (ended : Bool) (room : ℕ) where
   abbrev held : ParserState → List ℕ → ScannerState
@@ -66,8 +55,7 @@ module _ (ended : Bool) (room : ℕ) where
     where
       whole_head : (byte : ℕ) (rest : List ℕ) (low : Bool) → Whole Pcl (byte ∷ []) (if low then Control byte else Text byte) Pcl
           → Head Pcl (byte ∷ []) rest (if low then Control byte else Text byte) Pcl
-      whole_head byte rest true whole = whole
-      whole_head byte rest false whole = whole
+      whole_head byte rest low whole = grind arith
 
   foreign_each : (controls : Bool) (bytes following : List ℕ) → list_all (is_plain true) bytes ≡ true
       → PassesEach (held OtherLanguage (bytes ++ following)) (map (byte_command OtherLanguage) bytes) (held OtherLanguage following)

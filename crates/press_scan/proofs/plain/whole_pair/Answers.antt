@@ -1,6 +1,5 @@
-use Rattle.std.proofs.Common.{◌≡◌, ◌∙◌, ◌∷◌, Some, take, drop, refl, sym, ap, arith}
+use Rattle.std.proofs.Common.{◌≡◌, ◌∙◌, ◌∷◌, Some, take, drop, refl, sym, arith}
 use Rattle.press_cmd.specs.Carried.{data_count}
-use Rattle.press_cmd.specs.Token.{Grouped}
 use Rattle.press_scan.specs.Modes.{mode_of}
 use Rattle.press_scan.proofs.PairLaws.{pair_at, total_within}
 use Rattle.press_scan.proofs.plain.whole_pair.Goals as goal
@@ -17,18 +16,14 @@ returns c =
     let end = c.in_ok-end.end in
     let next = mode_of c.in_ok-end.mode in
     let count = c.data_count-count.result in
-    let counted =
-    c.data_count-count.ensures.count
-    ∙ ap (λ field. data_count sequence.character (Some sequence.group) field end) c.split_at.ensures.front in
+    let counted : count ≡ data_count sequence.character (Some sequence.group) (take place bytes) end = grind arith in
     record {
       within = total_within sequence.character sequence.group bytes place field.within field.field byte ahead back end next c.in_ok-end.ensures count counted _ refl
           (omega (arith, c.if-ahead-count.false));
       field = take place bytes;
       end = end;
       payload = take count ahead;
-      command =
-          c.new-param.ensures
-          ∙ ap (λ field. Grouped sequence.character sequence.group field end (take count ahead)) c.split_at.ensures.front;
+      command = grind arith;
       is_pair = pair_at sequence.character sequence.group bytes place field.within field.field byte ahead back end next c.in_ok-end.ensures count counted _ refl
           (omega (arith, c.if-ahead-count.false));
     }
