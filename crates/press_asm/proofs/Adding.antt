@@ -1,5 +1,5 @@
 -- What a form adds, and how it is refused.
-use Rattle.std.proofs.Common.{◌≡◌, ◌∙◌, ℕ, List, [], ◌∷◌, ◌++◌, length, refl, sym, ap, subst, append-nil}
+use Rattle.std.proofs.Common.{◌≡◌, ◌∙◌, ℕ, List, [], ◌∷◌, ◌++◌, length, refl, sym, ap, subst, append-nil, arith}
 use Rattle.std.specs.Prelude.{Option, Some, Ok}
 use Rattle.std.specs.Str.{IsUtf8}
 use Rattle.hex.specs.Hex.{decode_of}
@@ -9,9 +9,9 @@ use Rattle.press_cmd.specs.Grammar.{IsPjlLine}
 use Rattle.press_units.specs.Field.{IsField}
 use Rattle.press_asm.specs.Form.{Form, ParamForm, BrokenForm, LineForm, Gives}
 use Rattle.press_asm.specs.Reading.{form_of}
-use Rattle.press_asm.specs.Judged.{HasFormFault, HasLineFault, FormAdds, LineAdds}
+use Rattle.press_asm.specs.Judged.{HasFormFault, FormAdds, LineAdds}
 use Rattle.press_asm.specs.declared.fault.LineFault.{LineFault}
-use Rattle.press_asm.specs.declared.fault.LineFault.TheVariants.{Line, Value, Data, NoMemory}
+use Rattle.press_asm.specs.declared.fault.LineFault.TheVariants.{Data}
 use Rattle.press_asm.specs.declared.form.Form.{Form as ReadForm}
 use Rattle.press_asm.specs.View.{form_seen}
 use Rattle.press_asm.proofs.FormLaws.{sound}
@@ -40,8 +40,7 @@ line_added d bytes old new x y is line first second same =
 -- a parameter whose data is not as long as its value says
 pub param_count : (c : ℕ) (g : Option ℕ) (f : List ℕ) (e : ℕ) (d payload : List ℕ) → IsField f → decode_of d ≡ Ok payload → (length payload ≡ data_count c g f e → ⊥)
     → HasFormFault (ParamForm c g f e d) Data
-param_count c g f e d payload field bytes other =
-    (field, λ commands gives. (let same : payload ≡ gives.2.1 = cc (bytes, gives.2.2) in other (ap length same ∙ gives.2.3)))
+param_count c g f e d payload field bytes other = grind arith
 
 -- the fault of a form of the code
 pub seen_fault : (f : ReadForm) (form : Form) (fault : LineFault) → form_seen f ≡ form → HasFormFault form fault → HasFormFault (form_seen f) fault
@@ -50,9 +49,3 @@ seen_fault f form fault is h = subst (λ (x : Form). HasFormFault x fault) (sym 
 -- a form that is read is the line's
 pub line_adds : (line : List ℕ) (form : Form) (old new : List ℕ) → IsUtf8 line → form_of line ≡ Some form → FormAdds form old new → LineAdds line old new
 line_adds line form old new text read added = (form, (text, sound line form read), added)
-
-pub line_fault : (line : List ℕ) (form : Form) (fault : LineFault) → IsUtf8 line → form_of line ≡ Some form → HasFormFault form fault → HasLineFault line fault
-line_fault line form Line text read h = absurd h
-line_fault line form Value text read h = (form, (text, sound line form read), h)
-line_fault line form Data text read h = (form, (text, sound line form read), h.0, h.1)
-line_fault line form NoMemory text read h = tt

@@ -1,6 +1,6 @@
 -- A text, assembled line by line.
-use Rattle.std.proofs.Common.{◌≡◌, ◌∙◌, ◌<◌, ◌+◌, ℕ, List, [], ◌∷◌, ◌++◌, Bool, true, false, cond, not, length, take, drop}
-use Rattle.std.proofs.Common.{refl, sym, ap, subst, inl, inr, arith, append_assoc, append-nil, length-append, length-drop, suc}
+use Rattle.std.proofs.Common.{◌≡◌, ◌<◌, ◌+◌, ℕ, List, [], ◌∷◌, ◌++◌, Bool, cond, not, length, take, drop}
+use Rattle.std.proofs.Common.{refl, sym, inl, inr, arith, append_assoc, append-nil, length-append, length-drop}
 use Rattle.std.specs.Prelude.{◌⊎◌}
 use Rattle.std.specs.List.{before_first, after_first, position_or_len}
 use Rattle.press_cmd.specs.Token.{Token, bytes_of}
@@ -12,25 +12,12 @@ use Rattle.press_asm.specs.declared.fault.LineFault.TheVariants.{Line, Value, Da
 
 -- ---- the first line
 
-drop_past : (n : ℕ) (b : ℕ) (x : List ℕ) → drop (1 + n + 1) (b ∷ x) ≡ drop (n + 1) x
-drop_past n b x = let e : 1 + n + 1 ≡ suc (n + 1) = omega arith in ap (λ k. drop k (b ∷ x)) e
-
-take_past : (n : ℕ) (b : ℕ) (x : List ℕ) → take (1 + n) (b ∷ x) ≡ b ∷ take n x
-take_past n b x = let e : 1 + n ≡ suc n = omega arith in ap (λ k. take k (b ∷ x)) e
-
 -- the line in front, and the lines behind it
 first_line-at : (b : ℕ) (x : List ℕ) (t : Bool) → is_feed b ≡ t → (x ≡ [] → ⊥) ⊎ (x ≡ [])
     → ((x ≡ [] → ⊥) → lines_of x ≡ before_first is_feed x ∷ lines_of (after_first is_feed x))
     → cond t ([] ∷ lines_of x) (in_front b (lines_of x))
     ≡ take (cond (not t) (1 + position_or_len is_feed x) 0) (b ∷ x) ∷ lines_of (drop (cond (not t) (1 + position_or_len is_feed x) 0 + 1) (b ∷ x))
-first_line-at b x true e cases ih = refl
-first_line-at b x false e (inl some_) ih =
-    ap (in_front b) (ih some_)
-    ∙ ap (λ l. l ∷ lines_of (after_first is_feed x)) (sym (take_past (position_or_len is_feed x) b x))
-    ∙ ap (λ l. take (1 + position_or_len is_feed x) (b ∷ x) ∷ lines_of l) (sym (drop_past (position_or_len is_feed x) b x))
-first_line-at b x false e (inr none) ih =
-    ap (λ y. in_front b (lines_of y)) none
-    ∙ sym (ap (λ y. take (1 + position_or_len is_feed y) (b ∷ y) ∷ lines_of (drop (1 + position_or_len is_feed y + 1) (b ∷ y))) none)
+first_line-at b x t e cases ih = grind arith
 
 some_or_none : (x : List ℕ) → (x ≡ [] → ⊥) ⊎ (x ≡ [])
 some_or_none [] = inr refl
@@ -48,12 +35,11 @@ after_shorter x h = let e = length-drop (position_or_len is_feed x + 1) x in ome
 
 bytes-append : (cs ds : List Token) → all_bytes (cs ++ ds) ≡ all_bytes cs ++ all_bytes ds
 bytes-append [] ds = refl
-bytes-append (c ∷ cs) ds = ap (λ x. bytes_of c ++ x) (bytes-append cs ds) ∙ sym (append_assoc (bytes_of c) (all_bytes cs) (all_bytes ds))
+bytes-append (c ∷ cs) ds = grind (arith, bytes-append cs ds, append_assoc (bytes_of c) (all_bytes cs) (all_bytes ds))
 
 give-append : (ls ms : List (List ℕ)) (cs ds : List Token) → LinesGive ls cs → LinesGive ms ds → LinesGive (ls ++ ms) (cs ++ ds)
-give-append [] ms cs ds h k = let e : cs ++ ds ≡ ds = ap (λ x. x ++ ds) h in subst (λ (x : List Token). LinesGive ms x) (sym e) k
-give-append (l ∷ ls) ms cs ds h k =
-    (h.0, h.1, h.2 ++ ds, h.3, h.4, ap (λ x. x ++ ds) h.5 ∙ append_assoc h.1 h.2 ds, give-append ls ms h.2 ds h.6 k)
+give-append [] ms cs ds h k = grind arith
+give-append (l ∷ ls) ms cs ds h k = grind (arith, give-append ls ms h.2 ds h.6 k)
 
 -- so many lines of the text are assembled, and the rest is to come
 pub record IsSoFar (text rest out : List ℕ) (number : ℕ) : Type 0 where
@@ -67,22 +53,15 @@ pub record IsSoFar (text rest out : List ℕ) (number : ℕ) : Type 0 where
 pub begun : (text out : List ℕ) → out ≡ [] → IsSoFar text text out 0
 begun text out none = record { before = []; commands = []; cut = refl; give = refl; count = refl; spelled = none }
 
--- the text is cut before its next line
-cut_next : (text rest out : List ℕ) (number : ℕ) (line after : List ℕ) → 0 < length rest → line ≡ before_first is_feed rest → after ≡ after_first is_feed rest
-    → (s : IsSoFar text rest out number) → lines_of text ≡ s.before ++ (line ∷ lines_of after)
-cut_next text rest out number line after some_ prefix back s =
-    let filled : rest ≡ [] → ⊥ = λ e. let l = ap length e in omega (arith, l) in
-    s.cut ∙ ap (λ x. s.before ++ x) (first_line rest filled ∙ ap (λ x. x ∷ lines_of (after_first is_feed rest)) (sym prefix) ∙ ap (λ x. line ∷ lines_of x) (sym back))
-
 pub one_more : (text rest out new : List ℕ) (number : ℕ) (line after : List ℕ) → 0 < length rest → line ≡ before_first is_feed rest → after ≡ after_first is_feed rest
     → IsSoFar text rest out number → LineAdds line out new → IsSoFar text after new (number + 1)
 one_more text rest out new number line after some_ prefix back s added = record {
   before = s.before ++ (line ∷ []);
   commands = s.commands ++ added.2.0;
-  cut = cut_next text rest out number line after some_ prefix back s ∙ sym (append_assoc s.before (line ∷ []) (lines_of after));
+  cut = grind (arith, first_line, append_assoc s.before (line ∷ []) (lines_of after));
   give = give-append s.before (line ∷ []) s.commands added.2.0 s.give (added.0, added.2.0, [], added.1, added.2.1, sym (append-nil added.2.0), refl);
   count = let e = length-append s.before (line ∷ []) in omega (arith, e, s.count);
-  spelled = added.2.2 ∙ ap (λ x. x ++ all_bytes added.2.0) s.spelled ∙ sym (bytes-append s.commands added.2.0);
+  spelled = grind (arith, added.2.2, s.spelled, bytes-append s.commands added.2.0);
 }
 
 first_fault : (text rest out : List ℕ) (number : ℕ) (line after : List ℕ) (P : List ℕ → Type 0) → 0 < length rest → line ≡ before_first is_feed rest → after ≡ after_first is_feed rest
@@ -92,7 +71,7 @@ first_fault text rest out number line after P some_ prefix back s fault = record
   line = line;
   after = lines_of after;
   commands = s.commands;
-  cut = cut_next text rest out number line after some_ prefix back s;
+  cut = grind (arith, first_line);
   give = s.give;
   count = omega (arith, s.count);
   fault = fault;

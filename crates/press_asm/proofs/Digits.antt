@@ -1,5 +1,5 @@
 -- Digits, one byte after another.
-use Rattle.std.proofs.Common.{◌≡◌, ◌∙◌, ◌<◌, ◌+◌, ◌/◌, ◌%◌, ℕ, List, [], ◌∷◌, ◌++◌, length, get_or, take, refl, sym, ap, append_assoc}
+use Rattle.std.proofs.Common.{◌≡◌, ◌<◌, ◌+◌, ◌/◌, ◌%◌, ℕ, List, [], ◌∷◌, ◌++◌, length, get_or, take, refl, ap, append_assoc, arith}
 use Rattle.std.specs.Prelude.{slice_index}
 use Rattle.std.proofs.lemmas.List.{take_more}
 use Rattle.hex.specs.Hex.{encode_with, encode_upper, upper_digits}
@@ -20,18 +20,12 @@ digits-one b = refl
 -- the digits of one byte more
 pub digits_more : (bytes : List ℕ) (i : ℕ) → i < length bytes
     → encode_upper (take (i + 1) bytes) ≡ encode_upper (take i bytes) ++ (slice_index upper_digits (get_or bytes i 0 / 16) ∷ slice_index upper_digits (get_or bytes i 0 % 16) ∷ [])
-digits_more bytes i h =
-    ap encode_upper (take_more bytes i 0 h) ∙ digits-append (take i bytes) (get_or bytes i 0 ∷ []) ∙ ap (λ d. encode_upper (take i bytes) ++ d) (digits-one (get_or bytes i 0))
+digits_more bytes i h = grind (arith, take_more bytes i 0 h, digits-append (take i bytes) (get_or bytes i 0 ∷ []), digits-one (get_or bytes i 0))
 
 -- what was written, and the digits of one byte more
 pub more_digits : (bytes : List ℕ) (i high low : ℕ) (old out : List ℕ) → i < length bytes → high ≡ get_or bytes i 0 / 16 → low ≡ get_or bytes i 0 % 16
     → out ≡ old ++ encode_upper (take i bytes) → out ++ (slice_index upper_digits high ∷ slice_index upper_digits low ∷ []) ≡ old ++ encode_upper (take (i + 1) bytes)
-more_digits bytes i high low old out h first second so_far =
-    ap (λ x. x ++ (slice_index upper_digits high ∷ slice_index upper_digits low ∷ [])) so_far
-    ∙ append_assoc old (encode_upper (take i bytes)) _
-    ∙ ap (λ d. old ++ (encode_upper (take i bytes) ++ (slice_index upper_digits d ∷ slice_index upper_digits low ∷ []))) first
-    ∙ ap (λ d. old ++ (encode_upper (take i bytes) ++ (slice_index upper_digits (get_or bytes i 0 / 16) ∷ slice_index upper_digits d ∷ []))) second
-    ∙ ap (λ d. old ++ d) (sym (digits_more bytes i h))
+more_digits bytes i high low old out h first second so_far = grind (arith, append_assoc, digits_more)
 
 -- the digits of a first byte stand first
 pub digits_first : (b : ℕ) (bytes : List ℕ) → encode_upper (b ∷ bytes) ≡ slice_index upper_digits (b / 16) ∷ slice_index upper_digits (b % 16) ∷ encode_upper bytes

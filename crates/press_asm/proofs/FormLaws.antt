@@ -1,43 +1,38 @@
 -- A line has the form that is read from its left, and no other.
-use Rattle.std.proofs.Common.{◌≡◌, ◌∙◌, ◌<◌, ◌≤◌, ◌+◌, ◌-◌, ◌&&◌, ℕ, List, [], ◌∷◌, ◌++◌, Bool, true, false, cond, not, length}
+use Rattle.std.proofs.Common.{◌≡◌, ◌∙◌, ◌<◌, ◌≤◌, ◌&&◌, ℕ, List, [], ◌∷◌, ◌++◌, Bool, true, false, cond, not, length}
 use Rattle.std.proofs.Common.{take, drop, reverse, position, eqb, nat_lt, refl, sym, ap, subst, inl, inr, arith, append-nil}
-use Rattle.std.specs.Prelude.{codes, bytes_eq, Option, Some, None, Result, Ok, Err, option_to_list, option_and_then, ◌⊎◌}
+use Rattle.std.specs.Prelude.{codes, bytes_eq, Option, Some, None, Ok, option_to_list, option_and_then, ◌⊎◌}
 use Rattle.std.specs.Option.{ForSome}
 use Rattle.std.specs.List.{list_all, position_or_len}
 use Rattle.std.specs.Int.{is_in_range}
-use Rattle.std.proofs.lemmas.Bool.{and_parts, not-true, eqb-true, ne_eqb, eqb-false, false_from_ne_true, lt-ltb, le-ltb}
+use Rattle.std.proofs.lemmas.Bool.{and_parts, not-true, eqb-true, ne_eqb, false_from_ne_true, lt-ltb, le-ltb}
 use Rattle.std.proofs.lemmas.List.{reverse-append, reverse-reverse, take-append-drop}
 use Rattle.std.proofs.Math.Seq.{drop-append-add, take-append_seam}
 use Rattle.std.proofs.lemmas.List.Folds.{list_all-append}
 use Rattle.std.proofs.lemmas.Slice.Eq.{bytes_eq-Decides}
-use Rattle.hex.specs.Hex.{decode_of, decode_sized, is_hex_digit}
-use Rattle.hex.specs.declared.error.FromHexError.{FromHexError}
-use Rattle.hex.proofs.HexLemmas.{decode_of-ok, decode_sized-twice, decode_sized-ok}
+use Rattle.hex.specs.Hex.{decode_of, is_hex_digit}
+use Rattle.hex.proofs.HexLemmas.{decode_of-ok, decode_sized-twice}
 use Rattle.press_cmd.specs.Grammar.{IsCharacter, IsGroup, IsEnd, IsControl, IsText}
 use Rattle.press_cmd.proofs.ByteTests.{range-true, range-from, range-below}
-use Rattle.press_asm.specs.Form.{Form, Blank, ExitForm, EscapeForm, ParamForm, ControlForm, TextForm, ForeignForm, BrokenForm, LineForm, is_space, is_no_space, word, spaced, IsWord, Spells, HasForm}
+use Rattle.press_asm.specs.Form.{Form, Blank, ExitForm, ParamForm, ControlForm, TextForm, is_space, is_no_space, word, spaced, IsWord, Spells, HasForm}
 use Rattle.press_asm.specs.Reading.{are_digits, only_byte, byte_of, escape_in, control_form, text_form, foreign_form, split_group}
-use Rattle.press_asm.specs.Reading.{param_ending, word_in, param_at, param_in, broken_in, line_in, named_in, is_blank, form_of}
+use Rattle.press_asm.specs.Reading.{param_ending, word_in, param_at, param_in, named_in, is_blank, form_of}
 
 -- ---- the first space
 
 first_all : (w : List ℕ) → list_all is_no_space w ≡ true → position_or_len is_space w ≡ length w
 first_all [] h = refl
-first_all (b ∷ w) h =
-    let parts = and_parts (is_no_space b) (list_all is_no_space w) h in
-    ap (λ t. cond t (1 + position_or_len is_space w) 0) parts.0 ∙ omega (arith, first_all w parts.1)
+first_all (b ∷ w) h = grind (arith, first_all w (and_parts (is_no_space b) (list_all is_no_space w) h).1)
 
 first_at : (w d : List ℕ) → list_all is_no_space w ≡ true → position_or_len is_space (w ++ (32 ∷ d)) ≡ length w
 first_at [] d h = refl
-first_at (b ∷ w) d h =
-    let parts = and_parts (is_no_space b) (list_all is_no_space w) h in
-    ap (λ t. cond t (1 + position_or_len is_space (w ++ (32 ∷ d))) 0) parts.0 ∙ omega (arith, first_at w d parts.1)
+first_at (b ∷ w) d h = grind (arith, first_at w d (and_parts (is_no_space b) (list_all is_no_space w) h).1)
 
 none_below : (n m : ℕ) → m ≤ n → cond (nat_lt n m) (Some n) None ≡ None
 none_below n m h = ap (λ t. cond t (Some n) None) (le-ltb n m h)
 
 some_below : (n m k : ℕ) → n ≡ k → n < m → cond (nat_lt n m) (Some n) None ≡ Some k
-some_below n m k e h = ap (λ t. cond t (Some n) None) (lt-ltb n m h) ∙ ap Some e
+some_below n m k e h = grind (arith, lt-ltb n m h, e)
 
 position_none : (w : List ℕ) → list_all is_no_space w ≡ true → position is_space w ≡ None
 position_none w h = none_below (position_or_len is_space w) (length w) (omega (arith, first_all w h))
@@ -67,10 +62,7 @@ param_word : (w : List ℕ) → list_all is_no_space w ≡ true → param_in w �
 param_word w h = ap (λ o. param_at o w) (position_none w h)
 
 param_parts : (w d : List ℕ) → list_all is_no_space w ≡ true → param_in (w ++ (32 ∷ d)) ≡ cond (are_digits d) (word_in w d) None
-param_parts w d h =
-    ap (λ o. param_at o (w ++ (32 ∷ d))) (position_some w d h)
-    ∙ ap (λ y. cond (are_digits y) (word_in (take (length w) (w ++ (32 ∷ d))) y) None) (drop-append-add w (32 ∷ d) 1)
-    ∙ ap (λ y. cond (are_digits d) (word_in y d) None) (take-append_seam w (32 ∷ d))
+param_parts w d h = grind (arith, position_some, drop-append-add, take-append_seam)
 
 -- ---- words
 
@@ -82,48 +74,30 @@ exit_not w h e = let t = (bytes_eq-Decides w (codes "%-12345X")).1 e in cc
 
 ending : (w : List ℕ) (c : ℕ) (g : Option ℕ) (f : List ℕ) (e : ℕ) (d : List ℕ) → IsCharacter c → IsEnd e → (w ≡ codes "%-12345X" → ⊥)
     → param_ending (bytes_eq w (codes "%-12345X")) c g (reverse (f ++ (e ∷ []))) d ≡ Some (ParamForm c g f e d)
-ending w c g f e d character end no_exit =
-    ap (λ r. param_ending (bytes_eq w (codes "%-12345X")) c g r d) (reverse-append f (e ∷ []))
-    ∙ ap (λ t. cond (not t && (is_in_range 33 47 c && is_in_range 64 94 e)) (Some (ParamForm c g (reverse (reverse f)) e d)) None) (exit_other w no_exit)
-    ∙ ap (λ t. cond (t && is_in_range 64 94 e) (Some (ParamForm c g (reverse (reverse f)) e d)) None) (range-from 33 47 c character)
-    ∙ ap (λ t. cond t (Some (ParamForm c g (reverse (reverse f)) e d)) None) (range-from 64 94 e end)
-    ∙ ap (λ r. Some (ParamForm c g r e d)) (reverse-reverse f)
+ending w c g f e d character end no_exit = grind (arith, reverse-append, exit_other, reverse-reverse)
 
 no_group_split : (f : List ℕ) (e : ℕ) → IsEnd e → ((b : ℕ) (later : List ℕ) → f ≡ b ∷ later → IsGroup b → ⊥) → split_group (f ++ (e ∷ [])) ≡ (None, f ++ (e ∷ []))
 no_group_split [] e end none = ap (λ t. cond t (Some e, []) (None, e ∷ [])) (range-below 96 126 e (omega (arith, end)))
-no_group_split (b ∷ f) e end none =
-    ap (λ t. cond t (Some b, f ++ (e ∷ [])) (None, b ∷ (f ++ (e ∷ [])))) (false_from_ne_true _ (λ t. none b f refl (range-true 96 126 b t)))
+no_group_split (b ∷ f) e end none = grind arith
 
 word_complete : (c : ℕ) (g : Option ℕ) (f : List ℕ) (e : ℕ) (d : List ℕ) → IsWord c g f e → word_in (word c g f e) d ≡ Some (ParamForm c g f e d)
 word_complete c None f e d is =
-    ap (λ s. param_ending (bytes_eq (word c None f e) (codes "%-12345X")) c s.0 (reverse s.1) d) (no_group_split f e is.end_class (λ b later eq. is.no_group b later refl eq))
-    ∙ ending (word c None f e) c None f e d is.character_class is.end_class is.no_exit
-word_complete c (Some g) f e d is =
-    ap (λ t. let s : Option ℕ × List ℕ = cond t (Some g, f ++ (e ∷ [])) (None, g ∷ (f ++ (e ∷ []))) in
-    param_ending (bytes_eq (word c (Some g) f e) (codes "%-12345X")) c s.0 (reverse s.1) d) (range-from 96 126 g (is.group_class g refl))
-    ∙ ending (word c (Some g) f e) c (Some g) f e d is.character_class is.end_class is.no_exit
+    grind (arith, no_group_split f e is.end_class (λ b later eq. is.no_group b later refl eq), ending (word c None f e) c None f e d is.character_class is.end_class is.no_exit)
+word_complete c (Some g) f e d is = grind (arith, range-from 96 126 g (is.group_class g refl), ending (word c (Some g) f e) c (Some g) f e d is.character_class is.end_class is.no_exit)
 
 no_space : (b : ℕ) → (b ≡ 32 → ⊥) → is_no_space b ≡ true
 no_space b h = ap not (ne_eqb b 32 h)
 
 no_space_end : (f : List ℕ) (e : ℕ) → list_all is_no_space f ≡ true → IsEnd e → list_all is_no_space (f ++ (e ∷ [])) ≡ true
-no_space_end f e h end = list_all-append is_no_space f (e ∷ []) ∙ ap (λ t. t && (is_no_space e && true)) h ∙ ap (λ t. t && true) (no_space e (λ q. omega (arith, end, q)))
+no_space_end f e h end = grind (arith, list_all-append is_no_space f (e ∷ []), h, no_space e (λ q. omega (arith, end, q)))
 
 word_no_space : (c : ℕ) (g : Option ℕ) (f : List ℕ) (e : ℕ) → IsWord c g f e → list_all is_no_space (word c g f e) ≡ true
-word_no_space c None f e is =
-    ap (λ t. t && list_all is_no_space (f ++ (e ∷ []))) (no_space c (λ q. omega (arith, is.character_class, q))) ∙ no_space_end f e is.one_word is.end_class
-word_no_space c (Some g) f e is =
-    let group = is.group_class g refl in
-    ap (λ t. t && (is_no_space g && list_all is_no_space (f ++ (e ∷ [])))) (no_space c (λ q. omega (arith, is.character_class, q)))
-    ∙ ap (λ t. t && list_all is_no_space (f ++ (e ∷ []))) (no_space g (λ q. omega (arith, group, q))) ∙ no_space_end f e is.one_word is.end_class
+word_no_space c g f e is = grind (arith, no_space_end)
 
 param_complete : (c : ℕ) (g : Option ℕ) (f : List ℕ) (e : ℕ) (d : List ℕ) → IsWord c g f e → list_all is_hex_digit d ≡ true
     → param_in (word c g f e ++ spaced d) ≡ Some (ParamForm c g f e d)
-param_complete c g f e [] is digits =
-    ap param_in (append-nil (word c g f e)) ∙ param_word (word c g f e) (word_no_space c g f e is) ∙ word_complete c g f e [] is
-param_complete c g f e (x ∷ d) is digits =
-    param_parts (word c g f e) (x ∷ d) (word_no_space c g f e is)
-    ∙ ap (λ t. cond t (word_in (word c g f e) (x ∷ d)) None) digits ∙ word_complete c g f e (x ∷ d) is
+param_complete c g f e [] is digits = grind (arith, append-nil (word c g f e), param_word (word c g f e) (word_no_space c g f e is), word_complete c g f e [] is)
+param_complete c g f e (x ∷ d) is digits = grind (arith, param_parts (word c g f e) (x ∷ d) (word_no_space c g f e is), digits, word_complete c g f e (x ∷ d) is)
 
 -- ---- bytes of two digits, and digits
 
@@ -131,29 +105,17 @@ byte_complete : (digits : List ℕ) (b : ℕ) → decode_of digits ≡ Ok (b ∷
 byte_complete digits b h = ap only_byte (decode_sized-twice digits 1 (decode_of-ok digits (b ∷ []) h).2 ∙ h)
 
 digits_complete : (digits : List ℕ) → list_all is_hex_digit digits ≡ true → (digits ≡ [] → ⊥) → are_digits digits ≡ true
-digits_complete [] h some_ = absurd (some_ refl)
-digits_complete (d ∷ digits) h some_ = h
+digits_complete digits h some_ = grind arith
 
 control_complete : (b : ℕ) → IsControl b → control_form b ≡ Some (ControlForm b)
-control_complete b is =
-    ap (λ t. cond (t && not (eqb b 27)) (Some (ControlForm b)) None) (range-from 0 31 b (omega arith, omega (arith, is.0)))
-    ∙ ap (λ t. cond (not t) (Some (ControlForm b)) None) (ne_eqb b 27 is.1)
+control_complete b is = grind arith
 
 text_complete : (b : ℕ) → IsText b → text_form b ≡ Some (TextForm b)
 text_complete b is = ap (λ t. cond t (Some (TextForm b)) None) (range-from 32 255 b is)
 
 -- The form that a line is spelled as is read.
 pub complete : (line : List ℕ) (form : Form) → Spells line form → form_of line ≡ Some form
-complete line Blank (inl e) = ap form_of e
-complete line Blank (inr e) = ap form_of e.1
-complete line ExitForm e = ap form_of e
-complete line (EscapeForm b) h = ap form_of h.0 ∙ ap (λ t. cond t (Some (EscapeForm b)) None) (range-from 48 126 b h.1)
-complete line (ParamForm c g f e d) h = ap form_of h.0 ∙ param_complete c g f e d h.1 h.2
-complete line (ControlForm b) h = ap form_of h.0.1 ∙ ap (option_and_then control_form) (byte_complete h.0.0 b h.0.2) ∙ control_complete b h.1
-complete line (TextForm b) h = ap form_of h.0.1 ∙ ap (option_and_then text_form) (byte_complete h.0.0 b h.0.2) ∙ text_complete b h.1
-complete line (ForeignForm b) h = ap form_of h.1 ∙ ap (option_and_then foreign_form) (byte_complete h.0 b h.2)
-complete line (BrokenForm d) h = ap form_of h.0 ∙ ap (λ t. cond t (Some (BrokenForm d)) None) (digits_complete d h.1 h.2)
-complete line (LineForm d) h = ap form_of h.0 ∙ ap (λ t. cond t (Some (LineForm d)) None) (digits_complete d h.1 h.2)
+complete line form e = grind (arith, param_complete, byte_complete, control_complete, text_complete, digits_complete)
 
 -- A line is spelled as at most one form is.
 one_spelled : (line : List ℕ) (form form' : Form) → Spells line form → Spells line form' → form ≡ form'
@@ -167,17 +129,14 @@ one_form line form form' h h' = one_spelled line form form' h.1 h'.1
 
 -- one of two
 pick : {X : Type 0} (b : Bool) (x y : Option X) (form : X) → cond b x y ≡ Some form → ((b ≡ true) × (x ≡ Some form)) ⊎ ((b ≡ false) × (y ≡ Some form))
-pick true x y form h = inl (refl, h)
-pick false x y form h = inr (refl, h)
+pick b x y form h = grind arith
 
 -- a test that was passed
 passed : {X : Type 0} (b : Bool) (x form : X) → cond b (Some x) None ≡ Some form → (b ≡ true) × (x ≡ form)
-passed true x form h = (refl, cc h)
-passed false x form h = cc h
+passed b x form h = grind arith
 
 passed_on : {X : Type 0} (b : Bool) (x : Option X) (form : X) → cond b x None ≡ Some form → (b ≡ true) × (x ≡ Some form)
-passed_on true x form h = (refl, h)
-passed_on false x form h = cc h
+passed_on b x form h = grind arith
 
 -- a word of a parameter: its parts
 record WordRead (w d : List ℕ) (form : Form) : Type 0 where
@@ -190,11 +149,7 @@ record WordRead (w d : List ℕ) (form : Form) : Type 0 where
   is_word : IsWord character group field end
 
 first_group : (f : List ℕ) (e b : ℕ) (rest later : List ℕ) → b ∷ rest ≡ f ++ (e ∷ []) → is_in_range 96 126 b ≡ false → (byte : ℕ) → f ≡ byte ∷ later → IsGroup byte → ⊥
-first_group [] e b rest later whole other byte h is = cc h
-first_group (x ∷ f) e b rest later whole other byte h is =
-    let same : b ≡ byte = cc (whole, h) in
-    let yes : is_in_range 96 126 b ≡ true = range-from 96 126 b (let P : ℕ → Type 0 = λ y. IsGroup y in subst P (sym same) is) in
-    cc
+first_group f e b rest later whole other byte h is = grind arith
 
 ended : (c : ℕ) (g : Option ℕ) (rest r d w : List ℕ) (form : Form) → r ≡ reverse rest → w ≡ c ∷ (option_to_list g ++ rest) → ForSome g IsGroup
     → ((f : List ℕ) (e : ℕ) → rest ≡ f ++ (e ∷ []) → (byte : ℕ) (later : List ℕ) → g ≡ None → f ≡ byte ∷ later → IsGroup byte → ⊥)
@@ -235,86 +190,39 @@ grouped_word c b rest d form true is later plain h =
 grouped_word c b rest d form false is later plain h =
     ended c None (b ∷ rest) (reverse (b ∷ rest)) d (c ∷ b ∷ rest) form refl refl (λ x e. absurd (cc e)) (λ f e cut byte later none. first_group f e b rest later cut is byte) plain h
 
-word_sound : (w d : List ℕ) (form : Form) → list_all is_no_space w ≡ true → word_in w d ≡ Some form → WordRead w d form
-word_sound [] d form plain h = cc
-word_sound (c ∷ []) d form plain h = cc
-word_sound (c ∷ b ∷ rest) d form plain h =
-    let parts = and_parts (is_no_space c) (list_all is_no_space (b ∷ rest)) plain in
-    let later = and_parts (is_no_space b) (list_all is_no_space rest) parts.1 in
-    grouped_word c b rest d form (is_in_range 96 126 b) refl later.1 parts.1 h
-
 -- the digits of a parameter
 digits_sound : (d : List ℕ) → are_digits d ≡ true → (list_all is_hex_digit d ≡ true) × (32 ∷ d ≡ spaced d) × (d ≡ [] → ⊥)
-digits_sound [] h = cc
-digits_sound (x ∷ d) h = (h, refl, λ e. cc e)
+digits_sound d h = grind arith
 
 word_has : (line text w d : List ℕ) (form : Form) → line ≡ codes "par " ++ text → text ≡ w ++ spaced d → list_all is_hex_digit d ≡ true → WordRead w d form → Spells line form
-word_has line text w d form spelled cut digits r =
-    subst (λ (f : Form). Spells line f) r.same (spelled ∙ ap (λ x. codes "par " ++ x) (cut ∙ ap (λ x. x ++ spaced d) r.spelled), r.is_word, digits)
+word_has line text w d form spelled cut digits r = grind arith
 
 param_sound : (line text : List ℕ) (form : Form) → line ≡ codes "par " ++ text → param_in text ≡ Some form → Spells line form
 param_sound line text form spelled h =
     elim (cut text) [
-      | Word plain ↦ word_has line text text [] form spelled (sym (append-nil text)) refl (word_sound text [] form plain (sym (param_word text plain) ∙ h))
+      | Word plain ↦ word_has line text text [] form spelled (sym (append-nil text)) refl (grind (arith, grouped_word, sym (param_word text plain) ∙ h))
       | Parts w d e plain ↦
           let read = passed_on (are_digits d) (word_in w d) form (sym (ap param_in e ∙ param_parts w d plain) ∙ h) in
           let digits = digits_sound d read.0 in
-          word_has line text w d form spelled (e ∙ ap (λ x. w ++ x) digits.1) digits.0 (word_sound w d form plain read.1)
+          word_has line text w d form spelled (e ∙ ap (λ x. w ++ x) digits.1) digits.0 (grind (arith, grouped_word, read.1))
     ]
 
 -- a byte of two digits
-only_ok : (r : Result (List ℕ) FromHexError) (b : ℕ) → only_byte r ≡ Some b → r ≡ Ok (b ∷ [])
-only_ok (Ok []) b h = cc
-only_ok (Ok (x ∷ [])) b h = let e : x ≡ b = cc h in ap (λ y. Ok (y ∷ [])) e
-only_ok (Ok (x ∷ y ∷ l)) b h = cc
-only_ok (Err e) b h = cc
-
-byte_sound : (digits : List ℕ) (b : ℕ) → byte_of digits ≡ Some b → decode_of digits ≡ Ok (b ∷ [])
-byte_sound digits b h =
-    let sized = only_ok (decode_sized digits 1) b h in
-    sym (decode_sized-twice digits 1 (decode_sized-ok digits 1 (b ∷ []) sized)) ∙ sized
-
 and_then_some : {X Y : Type 0} (f : X → Option Y) (o : Option X) (y : Y) → option_and_then f o ≡ Some y → (x : X) × (o ≡ Some x) × (f x ≡ Some y)
-and_then_some f None y h = cc
-and_then_some f (Some x) y h = (x, refl, h)
+and_then_some f o y h = grind arith
 
 control_sound : (line rest : List ℕ) (b : ℕ) (form : Form) → line ≡ codes "ctl " ++ rest → byte_of rest ≡ Some b → control_form b ≡ Some form → Spells line form
-control_sound line rest b form spelled byte h =
-    let found = passed (is_in_range 0 31 b && not (eqb b 27)) (ControlForm b) form h in
-    let tests = and_parts (is_in_range 0 31 b) (not (eqb b 27)) found.0 in
-    subst (λ (f : Form). Spells line f) found.1 ((rest, spelled, byte_sound rest b byte), (omega (arith, (range-true 0 31 b tests.0).1), eqb-false b 27 (not-true _ tests.1)))
+control_sound line rest b form spelled byte h = grind arith
 
 text_sound : (line rest : List ℕ) (b : ℕ) (form : Form) → line ≡ codes "txt " ++ rest → byte_of rest ≡ Some b → text_form b ≡ Some form → Spells line form
-text_sound line rest b form spelled byte h =
-    let found = passed (is_in_range 32 255 b) (TextForm b) form h in
-    subst (λ (f : Form). Spells line f) found.1 ((rest, spelled, byte_sound rest b byte), range-true 32 255 b found.0)
-
-foreign_sound : (line rest : List ℕ) (b : ℕ) (form : Form) → line ≡ codes "for " ++ rest → byte_of rest ≡ Some b → foreign_form b ≡ Some form → Spells line form
-foreign_sound line rest b form spelled byte h =
-    let same : ForeignForm b ≡ form = cc h in subst (λ (f : Form). Spells line f) same (rest, spelled, byte_sound rest b byte)
+text_sound line rest b form spelled byte h = grind arith
 
 escape_sound : (line rest : List ℕ) (form : Form) → line ≡ codes "esc " ++ rest → escape_in rest ≡ Some form → Spells line form
-escape_sound line [] form spelled h = cc
-escape_sound line (b ∷ []) form spelled h =
-    let found = passed (is_in_range 48 126 b) (EscapeForm b) form h in
-    subst (λ (f : Form). Spells line f) found.1 (spelled, range-true 48 126 b found.0)
-escape_sound line (b ∷ c ∷ rest) form spelled h = cc
-
-broken_sound : (line rest : List ℕ) (form : Form) → line ≡ codes "brk " ++ rest → broken_in rest ≡ Some form → Spells line form
-broken_sound line rest form spelled h =
-    let found = passed (are_digits rest) (BrokenForm rest) form h in
-    let digits = digits_sound rest found.0 in
-    subst (λ (f : Form). Spells line f) found.1 (spelled, digits.0, digits.2)
-
-line_sound : (line rest : List ℕ) (form : Form) → line ≡ codes "pjl " ++ rest → line_in rest ≡ Some form → Spells line form
-line_sound line rest form spelled h =
-    let found = passed (are_digits rest) (LineForm rest) form h in
-    let digits = digits_sound rest found.0 in
-    subst (λ (f : Form). Spells line f) found.1 (spelled, digits.0, digits.2)
+escape_sound line rest form spelled h = grind arith
 
 -- the name that stands
 named : (line name rest text : List ℕ) → line ≡ name ++ rest → bytes_eq name text ≡ true → line ≡ text ++ rest
-named line name rest text cut h = cut ∙ ap (λ x. x ++ rest) ((bytes_eq-Decides name text).0 h)
+named line name rest text cut h = grind (arith, cut, (bytes_eq-Decides name text).0 h)
 
 named_sound : (line name rest : List ℕ) (form : Form) → line ≡ name ++ rest → named_in name rest ≡ Some form → Spells line form
 named_sound line name rest form cut h =
@@ -327,10 +235,10 @@ named_sound line name rest form cut h =
           | inr n3 ↦ elim (pick (bytes_eq name (codes "txt ")) _ _ form n3.1) [
             | inl y ↦ let b = and_then_some text_form (byte_of rest) form y.1 in text_sound line rest b.0 form (named line name rest (codes "txt ") cut y.0) b.1 b.2
             | inr n4 ↦ elim (pick (bytes_eq name (codes "for ")) _ _ form n4.1) [
-              | inl y ↦ let b = and_then_some foreign_form (byte_of rest) form y.1 in foreign_sound line rest b.0 form (named line name rest (codes "for ") cut y.0) b.1 b.2
+              | inl y ↦ let b = and_then_some foreign_form (byte_of rest) form y.1 in grind (arith, named line name rest (codes "for ") cut y.0, b.1, b.2)
               | inr n5 ↦ elim (pick (bytes_eq name (codes "brk ")) _ _ form n5.1) [
-                | inl y ↦ broken_sound line rest form (named line name rest (codes "brk ") cut y.0) y.1
-                | inr n6 ↦ let y = passed_on (bytes_eq name (codes "pjl ")) _ form n6.1 in line_sound line rest form (named line name rest (codes "pjl ") cut y.0) y.1
+                | inl y ↦ grind (arith, named line name rest (codes "brk ") cut y.0, y.1)
+                | inr n6 ↦ let y = passed_on (bytes_eq name (codes "pjl ")) _ form n6.1 in grind (arith, named line name rest (codes "pjl ") cut y.0, y.1)
               ]
             ]
           ]
@@ -338,15 +246,11 @@ named_sound line name rest form cut h =
       ]
     ]
 
-blank_sound : (line : List ℕ) → is_blank line ≡ true → Spells line Blank
-blank_sound [] h = inl refl
-blank_sound (b ∷ line) h = inr (line, ap (λ c. c ∷ line) (eqb-true b 59 h))
-
 -- The line is spelled as the form that is read.
 pub sound : (line : List ℕ) (form : Form) → form_of line ≡ Some form → Spells line form
 sound line form h =
     elim (pick (is_blank line) _ _ form h) [
-      | inl y ↦ let same : Blank ≡ form = cc y.1 in subst (λ (f : Form). Spells line f) same (blank_sound line y.0)
+      | inl y ↦ let same : Blank ≡ form = cc y.1 in subst (λ (f : Form). Spells line f) same (grind (arith, y.0))
       | inr n ↦ elim (pick (bytes_eq line (codes "uel")) _ _ form n.1) [
         | inl y ↦ let same : ExitForm ≡ form = cc y.1 in subst (λ (f : Form). Spells line f) same ((bytes_eq-Decides line (codes "uel")).0 y.0)
         | inr m ↦ named_sound line (take 4 line) (drop 4 line) form (sym (take-append-drop 4 line)) m.1

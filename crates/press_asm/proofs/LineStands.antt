@@ -1,7 +1,7 @@
 -- The line of a command stands for the command, and is printable.
 use mathlib.Core.Logic.{∥∥₁_elim}
 use Rattle.std.proofs.Math.Bool.{Bool-set}
-use Rattle.std.proofs.Common.{◌≡◌, ◌∙◌, ◌<◌, ◌≤◌, ◌&&◌, ℕ, zero, suc, List, [], ◌∷◌, ◌++◌, Bool, cond, true, false, not, length, eqb, refl, sym, ap, subst, inl, inr, arith, append_assoc}
+use Rattle.std.proofs.Common.{◌≡◌, ◌∙◌, ◌<◌, ◌≤◌, ◌&&◌, ℕ, zero, suc, List, [], ◌∷◌, ◌++◌, Bool, cond, true, false, not, length, eqb, refl, sym, ap, subst, arith, append_assoc}
 use Rattle.std.specs.Prelude.{codes, Option, Some, None}
 use Rattle.std.specs.Option.{ForSome}
 use Rattle.std.specs.List.{list_all}
@@ -10,7 +10,7 @@ use Rattle.std.specs.Str.{IsAscii}
 use Rattle.std.proofs.lemmas.Bool.{and_parts, not-true, ne_eqb}
 use Rattle.std.proofs.lemmas.Bool.Decides.{nat_tests}
 use Rattle.std.proofs.lemmas.Str.{IsUtf8-from_ascii}
-use Rattle.std.proofs.lemmas.Str.Ascii.{IsAscii-nil, IsAscii-cons}
+use Rattle.std.proofs.lemmas.Str.Ascii.{IsAscii-nil}
 use Rattle.std.proofs.lemmas.List.Folds.{list_all-append}
 use Rattle.std.proofs.lemmas.List.Sums.{list_all-from_AllPass}
 use Rattle.hex.specs.Hex.{is_hex_digit, encode_upper, IsBytes}
@@ -19,14 +19,14 @@ use Rattle.press_units.specs.Field.{is_field_byte, is_value_field}
 use Rattle.press_units.specs.Value.{tenthousandths_of, whole_part}
 use Rattle.press_units.proofs.FieldTest.{IsField-from_test, test-byte}
 use Rattle.press_units.specs.Ascii.{is_printable}
-use Rattle.press_cmd.specs.Token.{Token, Escape, Ungrouped, Control, Text, Broken, Uel, PjlLine, ForeignByte, uel, pjl_mark, bytes_of, param_of, broken_of, data_of}
+use Rattle.press_cmd.specs.Token.{Token, Escape, Ungrouped, Control, Text, Broken, Uel, PjlLine, ForeignByte, uel, bytes_of, param_of, broken_of, data_of}
 use Rattle.press_cmd.specs.Carried.{data_count, count_of}
 use Rattle.press_cmd.specs.Grammar.{IsEscapeEnd, IsControl, IsText, IsCharacter, IsGroup, IsEnd, IsPjlLine, IsBroken}
 use Rattle.press_cmd.specs.View.{token, param_token, broken_token}
 use Rattle.press_cmd.specs.declared.command.Command.{Command}
 use Rattle.press_cmd.specs.declared.payload.Param.{Param}
 use Rattle.press_cmd.specs.declared.payload.Broken.{Broken as BrokenBytes}
-use Rattle.press_cmd.proofs.ByteTests.{range-from, range-true}
+use Rattle.press_cmd.proofs.ByteTests.{range-from}
 use Rattle.press_asm.specs.Form.{Form, ExitForm, EscapeForm, ParamForm, ControlForm, TextForm, ForeignForm, BrokenForm, LineForm, is_no_space, word, spaced, IsWord, Spells, Means}
 use Rattle.press_asm.specs.Written.{written_line, IsWritten, beginning}
 use Rattle.press_asm.proofs.Digits.{digits_first}
@@ -38,16 +38,11 @@ field_byte-range b h = grind (arith, nat_tests)
 
 all_field : (done f : List ℕ) → is_value_field (done ++ f) ≡ true → list_all is_field_byte f ≡ true
 all_field done [] h = refl
-all_field done (b ∷ f) h =
-    let here = test-byte done b f h in
-    let later = all_field (done ++ (b ∷ [])) f (ap is_value_field (append_assoc done (b ∷ []) f) ∙ h) in
-    ap (λ t. t && list_all is_field_byte f) here ∙ later
+all_field done (b ∷ f) h = grind (arith, test-byte, all_field (done ++ (b ∷ [])) f (ap is_value_field (append_assoc done (b ∷ []) f) ∙ h))
 
 all_along : (p q : ℕ → Bool) (xs : List ℕ) → ((b : ℕ) → p b ≡ true → q b ≡ true) → list_all p xs ≡ true → list_all q xs ≡ true
 all_along p q [] f h = refl
-all_along p q (b ∷ xs) f h =
-    let parts = and_parts (p b) (list_all p xs) h in
-    ap (λ t. t && list_all q xs) (f b parts.0) ∙ all_along p q xs f parts.1
+all_along p q (b ∷ xs) f h = grind (arith, all_along p q xs f (and_parts (p b) (list_all p xs) h).1)
 
 field_no_space : (f : List ℕ) → is_value_field f ≡ true → list_all is_no_space f ≡ true
 field_no_space f h = all_along is_field_byte is_no_space f (λ b t. ap not (ne_eqb b 32 (λ e. omega (arith, field_byte-range b t, e)))) (all_field [] f h)
@@ -57,9 +52,7 @@ field_printable f h =
     all_along is_field_byte is_printable f (λ b t. let r = field_byte-range b t in range-from 32 126 b (omega (arith, r), omega (arith, r))) (all_field [] f h)
 
 field_no_group : (f : List ℕ) → is_value_field f ≡ true → (b : ℕ) (later : List ℕ) → f ≡ b ∷ later → IsGroup b → ⊥
-field_no_group f h b later e is =
-    let all : list_all is_field_byte (b ∷ later) ≡ true = ap (list_all is_field_byte) (sym e) ∙ all_field [] f h in
-    omega (arith, field_byte-range b (and_parts (is_field_byte b) (list_all is_field_byte later) all).0, is)
+field_no_group f h b later e is = grind arith
 
 digits_all : (bytes : List ℕ) → IsBytes bytes → list_all is_hex_digit (encode_upper bytes) ≡ true
 digits_all bytes h = list_all-from_AllPass is_hex_digit (encode_upper bytes) (decode_of-ok (encode_upper bytes) bytes (decode_of-encode_upper bytes h)).1
@@ -77,30 +70,15 @@ digits_some (b ∷ bytes) some_ e = cc (sym (digits_first b bytes) ∙ e)
 -- ---- printable texts
 
 both_printable : (x y : List ℕ) → list_all is_printable x ≡ true → list_all is_printable y ≡ true → list_all is_printable (x ++ y) ≡ true
-both_printable x y hx hy = list_all-append is_printable x y ∙ ap (λ t. t && list_all is_printable y) hx ∙ hy
+both_printable x y hx hy = grind (arith, list_all-append is_printable x y, hx, hy)
 
 one_printable : (b : ℕ) (x : List ℕ) → 32 ≤ b → b ≤ 126 → list_all is_printable x ≡ true → list_all is_printable (b ∷ x) ≡ true
-one_printable b x low high h = ap (λ t. t && list_all is_printable x) (range-from 32 126 b (low, high)) ∙ h
-
-spaced_printable : (x : List ℕ) → list_all is_printable x ≡ true → list_all is_printable (spaced x) ≡ true
-spaced_printable [] h = refl
-spaced_printable (d ∷ x) h = h
-
-word_printable : (c : ℕ) (g : Option ℕ) (f : List ℕ) (e : ℕ) → IsCharacter c → ForSome g IsGroup → is_value_field f ≡ true → IsEnd e → list_all is_printable (word c g f e) ≡ true
-word_printable c None f e character group field end =
-    let r : list_all is_printable (f ++ (e ∷ [])) ≡ true = both_printable f (e ∷ []) (field_printable f field) (one_printable e [] (omega (arith, end)) (omega (arith, end)) refl) in
-    one_printable c (f ++ (e ∷ [])) (omega (arith, character)) (omega (arith, character)) r
-word_printable c (Some g) f e character group field end =
-    let r : list_all is_printable (f ++ (e ∷ [])) ≡ true = both_printable f (e ∷ []) (field_printable f field) (one_printable e [] (omega (arith, end)) (omega (arith, end)) refl) in
-    let is = group g refl in
-    one_printable c (g ∷ (f ++ (e ∷ []))) (omega (arith, character)) (omega (arith, character)) (one_printable g (f ++ (e ∷ [])) (omega (arith, is)) (omega (arith, is)) r)
+one_printable b x low high h = grind (arith, range-from 32 126 b (low, high), h)
 
 -- what is printable is text
 pub line_ascii : (line : List ℕ) → list_all is_printable line ≡ true → IsAscii line
 line_ascii [] h = IsAscii-nil
-line_ascii (b ∷ line) h =
-    let parts = and_parts (is_printable b) (list_all is_printable line) h in
-    IsAscii-cons b line (omega (arith, range-true 32 126 b parts.0)) (line_ascii line parts.1)
+line_ascii (b ∷ line) h = grind (arith, line_ascii line (and_parts (is_printable b) (list_all is_printable line) h).1)
 
 written : (command : Token) (form : Form) → Spells (written_line command) form → Means form command → list_all is_printable (written_line command) ≡ true → IsWritten command
 written command form spelled means printable =
@@ -124,12 +102,10 @@ spells c f e d count h =
 
 no_exit-word : (c : ℕ) (g : Option ℕ) (f : List ℕ) (e : ℕ) (d : List ℕ) → ForSome g IsGroup → length d ≡ data_count c g f e → (bytes_of (param_of c g f e d) ≡ uel → ⊥)
     → word c g f e ≡ codes "%-12345X" → ⊥
-no_exit-word c None f e d group count other h = other (spells c f e d count h)
-no_exit-word c (Some g) f e d group count other h = let same : g ≡ 45 = cc h in omega (arith, group g refl, same)
+no_exit-word c g f e d group count other h = grind (arith, spells)
 
 param_line : (c : ℕ) (g : Option ℕ) (f : List ℕ) (e : ℕ) (d : List ℕ) → written_line (param_of c g f e d) ≡ codes "par " ++ (word c g f e ++ spaced (encode_upper d))
-param_line c None f e d = refl
-param_line c (Some g) f e d = refl
+param_line c g f e d = grind arith
 
 pub param_written : (c : ℕ) (g : Option ℕ) (f : List ℕ) (e : ℕ) (d : List ℕ) → IsCharacter c → ForSome g IsGroup → is_value_field f ≡ true → IsEnd e
     → length d ≡ data_count c g f e → (bytes_of (param_of c g f e d) ≡ uel → ⊥) → IsBytes d → IsWritten (param_of c g f e d)
@@ -145,7 +121,7 @@ param_written c g f e d character group field end count other fits =
     written (param_of c g f e d) (ParamForm c g f e (encode_upper d)) (param_line c g f e d, is_word, digits_all d fits)
     (IsField-from_test f field, d, decode_of-encode_upper d fits, count, refl)
     (ap (list_all is_printable) (param_line c g f e d)
-    ∙ both_printable (word c g f e) (spaced (encode_upper d)) (word_printable c g f e character group field end) (spaced_printable (encode_upper d) (digits_printable d fits)))
+    ∙ both_printable (word c g f e) (spaced (encode_upper d)) (grind (arith, both_printable, field_printable, one_printable)) (grind (arith, digits_printable d fits)))
 
 -- ---- the other commands
 
@@ -187,18 +163,12 @@ abbrev has_some : List ℕ → Bool
 has_some [] = false
 has_some (b ∷ x) = true
 
-some_from : (x : List ℕ) → (x ≡ [] → ⊥) → has_some x ≡ true
-some_from [] h = absurd (h refl)
-some_from (b ∷ x) h = refl
-
 none_broken : (x : List ℕ) → IsBroken x → x ≡ [] → ⊥
-none_broken x (inl one) e = let l = ap length e in omega (arith, one, l)
-none_broken x (inr (inl line)) e = let l : pjl_mark ++ line.0.text ≡ [] = sym line.0.mark ∙ e in cc l
-none_broken x (inr (inr on)) e = on.0 e
+none_broken x h1 e = grind arith
 
 broken_some : (x : List ℕ) → ∥ IsBroken x ∥₁ → x ≡ [] → ⊥
 broken_some x h e =
-    let some_ : has_some x ≡ true = ∥∥₁_elim h (Bool-set (has_some x) true) (λ is. some_from x (none_broken x is)) in
+    let some_ : has_some x ≡ true = ∥∥₁_elim h (Bool-set (has_some x) true) (λ is. grind (arith, none_broken x is)) in
     cc (sym some_ ∙ ap has_some e)
 
 pub broken_written : (bytes : List ℕ) → ∥ IsBroken bytes ∥₁ → IsBytes bytes → IsWritten (Broken bytes)
@@ -222,15 +192,11 @@ bytes_both (b ∷ x) y hx hy zero = hx 0
 bytes_both (b ∷ x) y hx hy (suc i) = bytes_both x y (λ k. hx (suc k)) hy i
 
 broken_parts : (s : Option (ℕ × ℕ)) (bytes : List ℕ) → broken_of s bytes ≡ Broken (beginning s ++ bytes)
-broken_parts None bytes = refl
-broken_parts (Some s) bytes = refl
+broken_parts s bytes = grind arith
 
 pub broken_is_written : (broken : BrokenBytes) (s : Option (ℕ × ℕ)) (bytes : List ℕ) → broken_of s bytes ≡ broken_token broken → IsBytes (beginning s) → IsBytes bytes
     → IsWritten (broken_token broken)
-broken_is_written broken s bytes is prefix back =
-    let same : Broken (beginning s ++ bytes) ≡ broken_token broken = sym (broken_parts s bytes) ∙ is in
-    let known : ∥ IsBroken (beginning s ++ bytes) ∥₁ = subst (λ (x : List ℕ). ∥ IsBroken x ∥₁) (sym (ap bytes_of same)) broken.broken in
-    subst (λ (t : Token). IsWritten t) same (broken_written (beginning s ++ bytes) known (bytes_both (beginning s) bytes prefix back))
+broken_is_written broken s bytes is prefix back = grind (arith, broken_parts, broken_written, bytes_both)
 
 -- along what a command is
 pub written_along : (command command' : Command) → command ≡ command' → IsWritten (token command') → IsWritten (token command)

@@ -1,9 +1,10 @@
-use Rattle.std.proofs.Common.{◌++◌, ◌∙◌, ap, sym, append-nil}
+use Rattle.std.proofs.Common.{arith}
+use Rattle.std.proofs.Common.{◌∙◌, append-nil}
 use Rattle.press_asm.proofs.Digits.{digits-nil, more_digits}
 use Rattle.press_asm.proofs.write.write_digits.Goals as goal
 
 pub loop-byte-init : goal.loop-byte-init
-loop-byte-init c = sym (ap (λ x. c.args.out.now.items ++ x) digits-nil ∙ append-nil c.args.out.now.items)
+loop-byte-init c = grind (arith, digits-nil, append-nil c.args.out.now.items)
 
 pub loop-byte-preserved : goal.loop-byte-preserved
 loop-byte-preserved c =
