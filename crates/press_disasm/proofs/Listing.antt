@@ -1,21 +1,20 @@
 -- The commands of a stream, listed one after another.
-use Rattle.std.proofs.Common.{◌≡◌, ◌∙◌, ℕ, List, [], ◌∷◌, ◌++◌, ◌<◌, length, true, false, cond, refl, sym, ap, subst, arith, append_assoc, append-nil}
+use Rattle.std.proofs.Common.{◌≡◌, ◌∙◌, ℕ, List, [], ◌∷◌, ◌++◌, ◌<◌, length, true, false, refl, sym, ap, subst, arith, append_assoc, append-nil}
 use Rattle.std.specs.List.{list_all}
 use Rattle.std.specs.Str.{IsAscii, IsUtf8}
-use Rattle.std.proofs.lemmas.Bool.{and_parts, ne_eqb}
+use Rattle.std.proofs.lemmas.Bool.{and_parts}
 use Rattle.std.proofs.lemmas.Str.{IsAscii-append, IsUtf8-from_ascii}
 use Rattle.std.proofs.lemmas.Str.Ascii.{IsAscii-nil, IsAscii-cons}
 use Rattle.press_units.specs.Ascii.{is_printable}
 use Rattle.press_cmd.specs.Token.{Token}
 use Rattle.press_cmd.specs.ParserState.{Exit}
 use Rattle.press_cmd.specs.Split.{Closed}
-use Rattle.press_cmd.proofs.ByteTests.{range-true}
 use Rattle.press_scan.specs.ScannerState.{ScannerState}
 use Rattle.press_scan.specs.Gives.{Passes}
 use Rattle.press_scan.specs.Passing.{PassesEach}
 use Rattle.press_scan.specs.Reached.{Reached, Remains}
 use Rattle.press_scan.proofs.ReachedLaws.{feeds_reach, end_reaches}
-use Rattle.press_asm.specs.Text.{is_feed, in_front, lines_of, all_bytes, LinesStand}
+use Rattle.press_asm.specs.Text.{lines_of, all_bytes, LinesStand}
 use Rattle.press_asm.specs.Written.{written_line, text_of, AreWritten}
 use Rattle.press_asm.proofs.LineStands.{line_ascii}
 use Rattle.press_disasm.specs.Disassembly.{IsDisassembly, IsListed, Lists, ListsAll, ListsNext}
@@ -34,7 +33,7 @@ written-append (c ∷ cs) ds h more = (h.0, written-append cs ds h.1 more)
 
 pub text-append : (cs ds : List Token) → text_of (cs ++ ds) ≡ text_of cs ++ text_of ds
 text-append [] ds = refl
-text-append (c ∷ cs) ds = ap (λ x. written_line c ++ (10 ∷ x)) (text-append cs ds) ∙ sym (append_assoc (written_line c) (10 ∷ text_of cs) (text_of ds))
+text-append (c ∷ cs) ds = grind (arith, text-append cs ds, append_assoc (written_line c) (10 ∷ text_of cs) (text_of ds))
 
 -- one command more
 pub one_listed : (old : ScannerState) (before : List ℕ) (middle : ScannerState) (lines : List ℕ) (new : ScannerState) (more : List ℕ)
@@ -94,15 +93,11 @@ all_listed bytes lines new fed ended last mode none same more is (lists, is_done
 
 first_line : (line rest : List ℕ) → list_all is_printable line ≡ true → lines_of (line ++ (10 ∷ rest)) ≡ line ∷ lines_of rest
 first_line [] rest h = refl
-first_line (b ∷ line) rest h =
-    let parts = and_parts (is_printable b) (list_all is_printable line) h in
-    let other : is_feed b ≡ false = ne_eqb b 10 (λ e. omega (arith, range-true 32 126 b parts.0, e)) in
-    ap (λ t. cond t ([] ∷ lines_of (line ++ (10 ∷ rest))) (in_front b (lines_of (line ++ (10 ∷ rest))))) other ∙ ap (in_front b) (first_line line rest parts.1)
+first_line (b ∷ line) rest h = grind (arith, first_line line rest (and_parts (is_printable b) (list_all is_printable line) h).1)
 
 lines_stand : (cs : List Token) → AreWritten cs → LinesStand (lines_of (text_of cs)) cs
 lines_stand [] h = refl
-lines_stand (c ∷ cs) h =
-    subst (λ (lines : List (List ℕ)). LinesStand lines (c ∷ cs)) (sym (first_line (written_line c) (text_of cs) h.0.printable)) (h.0.stands, lines_stand cs h.1)
+lines_stand (c ∷ cs) h = grind (arith, first_line, lines_stand cs h.1)
 
 text_ascii : (cs : List Token) → AreWritten cs → IsAscii (text_of cs)
 text_ascii [] h = IsAscii-nil
