@@ -1,5 +1,5 @@
 -- Outputs that go out one after another.
-use Rattle.std.proofs.Common.{◌≡◌, ◌∙◌, ℕ, List, [], ◌∷◌, ◌++◌, Option, Some, None, map, option_map, refl, sym, ap, subst}
+use Rattle.std.proofs.Common.{◌≡◌, ◌∙◌, ℕ, List, [], ◌∷◌, ◌++◌, Option, map, option_map, refl, sym, ap, subst, arith}
 use Rattle.std.proofs.lemmas.List.{append_assoc, append-nil, map-append}
 use Rattle.std.proofs.KnownBytes.{Appends-nil, Appends-trans}
 use Rattle.std.specs.Io.KnownBytes.{Appends}
@@ -34,18 +34,15 @@ tagged-append tag outputs others = ap (under_tag tag) (sheets_of-append outputs 
 reply_bytes_of-append : (outputs others : List Output) → reply_bytes_of (outputs ++ others) ≡ reply_bytes_of outputs ++ reply_bytes_of others
 reply_bytes_of-append [] others = refl
 reply_bytes_of-append (Deliver sheet ∷ outputs) others = reply_bytes_of-append outputs others
-reply_bytes_of-append (Reply bytes ∷ outputs) others =
-    ap (λ all. bytes ++ all) (reply_bytes_of-append outputs others) ∙ sym (append_assoc bytes (reply_bytes_of outputs) (reply_bytes_of others))
+reply_bytes_of-append (Reply bytes ∷ outputs) others = grind (arith, append_assoc, reply_bytes_of-append outputs others)
 
 -- two additions to what is told are one
 pub told-twice : {X : Type 0} (told : Option (List X)) (one other : List X) → option_map (λ all. all ++ other) (option_map (λ all. all ++ one) told) ≡ option_map (λ all. all ++ (one ++ other)) told
-told-twice None one other = refl
-told-twice (Some all) one other = ap Some (append_assoc all one other)
+told-twice told one other = grind (arith, append_assoc)
 
 -- nothing is added
 pub told-nothing : {X : Type 0} (told : Option (List X)) → told ≡ option_map (λ all. all ++ []) told
-told-nothing None = refl
-told-nothing (Some all) = ap Some (sym (append-nil all))
+told-nothing told = grind (arith, append-nil)
 
 -- the sinks took nothing, and had no fault
 pub Took-none : (tag : ℕ) (ending : Ending) (told : SinkLog) → told.sheets.faults ≡ sheet_faults_after ending told.sheets.faults
@@ -59,14 +56,7 @@ Took-none tag ending told sheets replies = record {
 
 pub Took-went : (tag : ℕ) (outputs went : List Output) (ending : Ending) (before after : SinkLog) → GoesOut ending went outputs
     → Took tag went ending before after → WentOut tag outputs ending before after
-Took-went tag outputs went ending before after goes took = record {
-  went = went;
-  goes = goes;
-  delivered = took.delivered;
-  replied = took.replied;
-  sheet_faults = took.sheet_faults;
-  reply_faults = took.reply_faults;
-}
+Took-went tag outputs went ending before after goes took = grind arith
 
 pub WentOut-none : (tag : ℕ) (told : SinkLog) → WentOut tag [] Complete told told
 WentOut-none tag told = Took-went tag [] [] Complete told told refl (Took-none tag Complete told refl refl)
@@ -83,16 +73,9 @@ module _ (tag : ℕ) (outputs : List Output) (before after : SinkLog) (all : Wen
 -- what goes out behind other outputs
 pub goes-then : (ending : Ending) (outputs went others : List Output) → GoesOut ending went others → GoesOut ending (outputs ++ went) (outputs ++ others)
 goes-then Complete outputs went others is = ap (λ more. outputs ++ more) is
-goes-then AtSheet outputs went others (sheet, more, is) = (sheet, more, ap (λ all. outputs ++ all) is ∙ sym (append_assoc outputs went (Deliver sheet ∷ more)))
-goes-then AtReply outputs went others (whole, more, prefix, back, is, goes) = (
-  outputs ++ whole,
-  more,
-  prefix,
-  back,
-  ap (λ all. outputs ++ all) is ∙ sym (append_assoc outputs whole (Reply (prefix ++ back) ∷ more)),
-  ap (λ all. outputs ++ all) goes ∙ sym (append_assoc outputs whole (Reply prefix ∷ [])),
-)
-goes-then ForMemory outputs went others (more, is) = (more, ap (λ all. outputs ++ all) is ∙ sym (append_assoc outputs went more))
+goes-then AtSheet outputs went others (sheet, more, is) = (sheet, more, grind (arith, append_assoc))
+goes-then AtReply outputs went others (whole, more, prefix, back, is, goes) = (outputs ++ whole, more, prefix, back, grind (arith, append_assoc), grind (arith, append_assoc))
+goes-then ForMemory outputs went others (more, is) = (more, grind (arith, append_assoc))
 goes-then Refused outputs went others none = none
 
 -- the sinks took outputs, and then others
@@ -100,10 +83,7 @@ pub Took-then : (tag : ℕ) (outputs others : List Output) (ending : Ending) (be
     → Took tag outputs Complete before between → Took tag others ending between after → Took tag (outputs ++ others) ending before after
 Took-then tag outputs others ending before between after first then = record {
   delivered =
-      then.delivered
-      ∙ ap (λ told. option_map (λ all. all ++ under_tag tag (sheets_of others)) told) first.delivered
-      ∙ told-twice before.sheets.delivered (under_tag tag (sheets_of outputs)) (under_tag tag (sheets_of others))
-      ∙ ap (λ more. option_map (λ all. all ++ more) before.sheets.delivered) (sym (tagged-append tag outputs others));
+      grind (arith, then.delivered, first.delivered, told-twice before.sheets.delivered (under_tag tag (sheets_of outputs)) (under_tag tag (sheets_of others)), tagged-append tag outputs others);
   replied =
       subst (Appends before.replies.replied after.replies.replied) (sym (reply_bytes_of-append outputs others))
       (Appends-trans before.replies.replied between.replies.replied after.replies.replied (reply_bytes_of outputs)
@@ -115,8 +95,7 @@ Took-then tag outputs others ending before between after first then = record {
 -- what went out of outputs is what the sinks took
 pub WentOut-took : (tag : ℕ) (outputs : List Output) (ending : Ending) (before after : SinkLog) → (sent : WentOut tag outputs ending before after)
     → Took tag sent.went ending before after
-WentOut-took tag outputs ending before after sent =
-    record { delivered = sent.delivered; replied = sent.replied; sheet_faults = sent.sheet_faults; reply_faults = sent.reply_faults }
+WentOut-took tag outputs ending before after sent = grind arith
 
 -- all of the outputs went out, and then others so far
 pub WentOut-then : (tag : ℕ) (outputs others : List Output) (ending : Ending) (before between after : SinkLog)
@@ -130,8 +109,7 @@ WentOut-then tag outputs others ending before between after first then =
 
 -- sinks that can count a fault can after a call that had none
 pub Took-has_fault_room : (tag : ℕ) (went : List Output) (before after : SinkLog) → Took tag went Complete before after → HasFaultRoom before → HasFaultRoom after
-Took-has_fault_room tag went before after took can =
-    record { sheets = rw took.sheet_faults can.sheets; replies = rw took.reply_faults can.replies }
+Took-has_fault_room tag went before after took can = grind arith
 
 -- a call all of whose outputs went out, and then another
 pub HandsOut-then : (tag : ℕ) (ending : Ending) (first second both : List Output → Type 0) (before between after : SinkLog)
@@ -152,21 +130,12 @@ HandsOut-as ending one other sinks means hands = record { went = hands.went; is 
 -- what goes out of outputs that do not all go out, whatever comes behind them
 pub goes-stopped : (ending : Ending) (went outputs others : List Output) → (ending ≡ Complete → ⊥) → GoesOut ending went outputs → GoesOut ending went (outputs ++ others)
 goes-stopped Complete went outputs others stops goes = absurd (stops refl)
-goes-stopped AtSheet went outputs others stops (sheet, more, is) =
-    (sheet, more ++ others, ap (λ all. all ++ others) is ∙ append_assoc went (Deliver sheet ∷ more) others)
-goes-stopped AtReply went outputs others stops (whole, more, prefix, back, is, goes) =
-    (whole, more ++ others, prefix, back, ap (λ all. all ++ others) is ∙ append_assoc whole (Reply (prefix ++ back) ∷ more) others, goes)
+goes-stopped AtSheet went outputs others stops (sheet, more, is) = (sheet, more ++ others, grind (arith, append_assoc))
+goes-stopped AtReply went outputs others stops (whole, more, prefix, back, is, goes) = (whole, more ++ others, prefix, back, grind (arith, append_assoc), goes)
 goes-stopped ForMemory went outputs others stops (more, is) = (more ++ others, ap (λ all. all ++ others) is ∙ append_assoc went more others)
 goes-stopped Refused went outputs others stops none = none
 
 -- outputs that did not all go out, and others behind them
 pub WentOut-stopped : (tag : ℕ) (outputs others : List Output) (ending : Ending) (before after : SinkLog) → (ending ≡ Complete → ⊥)
     → WentOut tag outputs ending before after → WentOut tag (outputs ++ others) ending before after
-WentOut-stopped tag outputs others ending before after stops stopped = record {
-  went = stopped.went;
-  goes = goes-stopped ending stopped.went outputs others stops stopped.goes;
-  delivered = stopped.delivered;
-  replied = stopped.replied;
-  sheet_faults = stopped.sheet_faults;
-  reply_faults = stopped.reply_faults;
-}
+WentOut-stopped tag outputs others ending before after stops stopped = grind (arith, goes-stopped)

@@ -1,5 +1,5 @@
 -- How often the place of a number stands in a text.
-use Rattle.std.proofs.Common.{◌≡◌, ◌∙◌, ℕ, ◌<◌, ◌≤◌, suc, List, [], ◌∷◌, ◌++◌, length, drop, take, refl, sym, ap, subst, arith, append_assoc, take-append-drop, length-append, Some, None}
+use Rattle.std.proofs.Common.{◌≡◌, ◌∙◌, ℕ, ◌<◌, suc, List, [], ◌∷◌, ◌++◌, length, drop, take, refl, sym, ap, arith, append_assoc, take-append-drop, length-append, Some, None}
 use Rattle.std.proofs.Math.Seq.{drop-append_seam}
 use Rattle.std.specs.Str.Pattern.{FindsText, HasTextAt, LacksTextAt}
 use Rattle.press_sink.specs.Template.{NameParts, IsTemplate, IsNoTemplate}
@@ -11,8 +11,7 @@ place = 37 ∷ 100 ∷ []
 -- where nothing is found, no parts spell the text
 pub none_spells : (text : List ℕ) → FindsText place text None → (front back : List ℕ) → text ≡ front ++ (place ++ back) → ⊥
 none_spells text none front back e =
-    let short : length front ≤ length text = subst (λ (l : List ℕ). length front ≤ length l) (sym e) (omega (arith, length-append front (place ++ back))) in
-    none (length front) short back (ap (drop (length front)) e ∙ drop-append_seam front (place ++ back))
+    none (length front) (grind (arith, length-append front (place ++ back))) back (ap (drop (length front)) e ∙ drop-append_seam front (place ++ back))
 
 -- Where the place stands first behind one front, and not again in the back, every spelling is that one.
 pub one_spelling : (front back other rest : List ℕ) → ((k : ℕ) → k < length front → LacksTextAt place (front ++ (place ++ back)) k)
@@ -23,15 +22,11 @@ one_spelling [] back (x ∷ []) rest before behind e = let bad : ◌≡◌ {A = 
 one_spelling [] back (x ∷ y ∷ other) rest before behind e = absurd (behind other rest (cc))
 one_spelling (x ∷ front) back [] rest before behind e = absurd (before 0 (omega arith) rest e)
 one_spelling (x ∷ front) back (y ∷ other) rest before behind e =
-    let tails : front ++ (place ++ back) ≡ other ++ (place ++ rest) = cc in
-    let heads : y ≡ x = cc in
-    let same = one_spelling front back other rest (λ k h r. before (suc k) (omega arith) r) behind tails in
-    (cc (heads, same.0), same.1)
+    grind (arith, one_spelling front back other rest (λ k h r. before (suc k) (omega arith) r) behind (cc))
 
 -- what stands where the place was found
 found_spells : (text front back : List ℕ) (i j : ℕ) → HasTextAt place text i j → front ≡ take i text → back ≡ drop j text → text ≡ front ++ (place ++ back)
-found_spells text front back i j h f b =
-    sym (take-append-drop i text) ∙ ap (λ l. take i text ++ l) h.split ∙ ap (λ l. take i text ++ (place ++ l)) (sym b) ∙ ap (λ l. l ++ (place ++ back)) (sym f)
+found_spells text front back i j h f b = grind (arith, take-append-drop)
 
 -- the front and the back of the first place, where no other stands in the back
 pub first_alone : (text front back : List ℕ) (i j : ℕ) → FindsText place text (Some (i, j)) → front ≡ take i text → back ≡ drop j text
@@ -56,8 +51,7 @@ found_twice text front back i j m n first f b second parts template =
     let spells = found_spells text front back i j first.1 f b in
     let again = found_spells back (take m back) (drop n back) m n second.1 refl refl in
     let long : List ℕ = front ++ (place ++ take m back) in
-    let both : text ≡ long ++ (place ++ drop n back)
-    = spells ∙ ap (λ l. front ++ (place ++ l)) again ∙ sym (append_assoc front (place ++ take m back) (place ++ drop n back)) in
+    let both : text ≡ long ++ (place ++ drop n back) = grind (arith, spells, again, append_assoc front (place ++ take m back) (place ++ drop n back)) in
     let one : front ≡ parts.front = ap (λ (p : NameParts). p.front) (template.once (record { front = front; back = back }) spells) in
     let other : long ≡ parts.front = ap (λ (p : NameParts). p.front) (template.once (record { front = long; back = drop n back }) both) in
     let same : length long ≡ length front = ap length (other ∙ sym one) in

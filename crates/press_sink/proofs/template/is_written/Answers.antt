@@ -1,4 +1,4 @@
-use Rattle.std.proofs.Common.{arith, ap, not, nat_eq, sym, refl, ◌∙◌}
+use Rattle.std.proofs.Common.{arith, not}
 use Rattle.press_sink.proofs.SideNameLemmas.{tells-written, refuses-written}
 use Rattle.press_sink.proofs.template.is_written.Goals as goal
 
@@ -9,13 +9,7 @@ returns-then-first-ne48 c =
     some (item 0) c.if-first-ne48.true c.are_digits.ensures
 
 pub returns-else-first-ne48 : goal.returns-else-first-ne48
-returns-else-first-ne48 c =
-    let (some, item) = c.in-Some.ensures.item.3 in
-    refuses-written c.args.text.now c.as_bytes-digits.result.now _ c.as_bytes-digits.ensures.value
-    (λ digits. digits.1 (sym (item 0) ∙ c.if-first-ne48.false))
-    (ap (λ first. not (nat_eq first 48)) c.if-first-ne48.false)
+returns-else-first-ne48 c = grind (arith, refuses-written, not)
 
 pub returns-in-None : goal.returns-in-None
-returns-in-None c =
-    refuses-written c.args.text.now c.as_bytes-digits.result.now _ c.as_bytes-digits.ensures.value
-    (λ digits. omega (arith, digits.0, c.in-None.ensures.item.3)) refl
+returns-in-None c = grind (arith, refuses-written)

@@ -1,12 +1,11 @@
+use Rattle.std.proofs.Common.{append_assoc}
 use Rattle.std.proofs.Common.{arith, ap, drop, sym, take, take-append-drop}
-use Rattle.press_sink.proofs.FuseLemmas.{fuse-fault, fuse-passed}
+use Rattle.press_sink.proofs.FuseLemmas.{fuse-fault}
 use Rattle.press_sink.proofs.fuse_replies.FuseRepliesReplySink.reply.Goals as goal
 
 pub returns-in-Err-ReplyFault-clause-replies : goal.returns-in-Err-ReplyFault-clause-replies
 returns-in-Err-ReplyFault-clause-replies g c =
-    fuse-passed (g.S.ReplySink.told c.args.self.now.sink) (g.S.ReplySink.told c.reply.new.self) c.args.self.now.faults
-    (take c.min.result c.args.bytes.now) (drop c.min.result c.args.bytes.now) c.args.bytes.now
-    c.in-Err-ReplyFault.field-0 c.in-Err-ReplyFault.field-0-is (sym (take-append-drop c.min.result c.args.bytes.now)) c.in-Err-ReplyFault.ensures (omega arith)
+    grind (arith, append_assoc, c.in-Err-ReplyFault.field-0-is, sym (take-append-drop c.min.result c.args.bytes.now), c.in-Err-ReplyFault.ensures)
 
 pub returns-in-Ok-clause-replies : goal.returns-in-Ok-clause-replies
 returns-in-Ok-clause-replies g c =
