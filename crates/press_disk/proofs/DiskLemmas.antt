@@ -1,9 +1,8 @@
 -- What stays of a disk, step by step.
-use Rattle.std.proofs.Common.{◌≡◌, ◌≢◌, ◌∙◌, ◌∷◌, ℕ, IfSome, List, [], Option, Some, None, refl, sym, ap, subst, inl, inr}
-use Rattle.std.specs.List.{Contains}
+use Rattle.std.proofs.Common.{◌≡◌, ◌∙◌, ℕ, List, Option, Some, None, subst}
 use Rattle.press_disk.specs.declared.file_number.FileNumber.{FileNumber}
-use Rattle.press_disk.specs.Disk.{Between, Disk, KeepsBut, Renames, file_of}
-use Rattle.press_disk.specs.Parts.{IsPartPlace, IsUnspared, LeavesFiles, PlacesOutput, Placing}
+use Rattle.press_disk.specs.Disk.{Between, Disk, KeepsBut}
+use Rattle.press_disk.specs.Parts.{IsPartPlace, LeavesFiles}
 
 -- ---- of one step, and of two
 
@@ -35,23 +34,6 @@ LeavesFiles-then spared old middle new first next = record {
   spares = λ place file away among at. next.spares place file away among (first.spares place file away among at);
 }
 
--- ---- an output that is closed
-
-pub PlacesOutput-renamed : (part name : List ℕ) (spared : List FileNumber) (old new : Disk)
-    → ((file : FileNumber) → file_of old name ≡ Some file → ¬ (Contains spared file)) → Renames part name old new → PlacesOutput part name spared old new
-PlacesOutput-renamed part name spared old new unspared renames = record {
-  placed = renames.taken;
-  others = record { places = renames.places; files = λ place away. renames.files place (λ is. away (inr is)) (λ is. away (inl is)) };
-  gone = renames.left;
-  spares = λ place file away among at.
-      renames.files place away (λ is. unspared file (ap old.file_at (sym is) ∙ at) among) ∙ at;
-}
-
-pub Placing-renamed : (part name : List ℕ) (spared : List FileNumber) (old new : Disk)
-    → part ≢ [] → ((file : FileNumber) → file_of old name ≡ Some file → ¬ (Contains spared file)) → Renames part name old new → Placing part name spared old new
-Placing-renamed [] name spared old new some unspared renames = absurd (some refl)
-Placing-renamed (byte ∷ part) name spared old new some unspared renames = PlacesOutput-renamed (byte ∷ part) name spared old new unspared renames
-
 -- ---- as the calls have it
 
 -- one step more, in which the files stay
@@ -61,12 +43,3 @@ LeavesFiles-next old middle between new spared others same spare first second =
     let all : Between between new (LeavesFiles spared) = subst (λ (files : List FileNumber). Between between new (LeavesFiles files)) spare second in
     let next : Between middle new (LeavesFiles spared) = subst (λ (disk : Option Disk). Between disk new (LeavesFiles spared)) same all in
     Between-then old middle new (LeavesFiles spared) (LeavesFiles spared) (LeavesFiles spared) (LeavesFiles-then spared) first next
-
--- a part took its name
-pub Placing-placed : (from part to name : List ℕ) (spared : List FileNumber) (old new : Option Disk) → from ≡ part → to ≡ name → part ≢ []
-    → IfSome old (λ disk. IsUnspared spared (file_of disk name)) → Between old new (Renames from to) → Between old new (Placing part name spared)
-Placing-placed from part to name spared None new is-from is-to some unspared renames = tt
-Placing-placed from part to name spared (Some old) None is-from is-to some unspared renames = absurd renames
-Placing-placed from part to name spared (Some old) (Some new) is-from is-to some unspared renames =
-    let named : Renames part name old new = subst (λ front. Renames front name old new) is-from (subst (λ back. Renames from back old new) is-to renames) in
-    Placing-renamed part name spared old new some unspared named
