@@ -1,6 +1,5 @@
 -- Rows that change the page: what the page environment answers, and what a value names there.
-use Rattle.std.proofs.Common.{◌≡◌, true, Option, Some, None, refl, sym, ap}
-use Rattle.std.proofs.lemmas.Bool.{true≢false}
+use Rattle.std.proofs.Common.{◌≡◌, true, Option, Some, sym, ap, arith}
 use Rattle.std.specs.Prelude.{option_map}
 use Rattle.press_page.specs.Environment.{changed_by, closes_page, with_page_size}
 use Rattle.press_page.specs.declared.environment.PageEnv.{PageEnv}
@@ -11,8 +10,7 @@ use Rattle.press_table.specs.Closing.{close_if_marked, close_if_asked}
 
 -- a size that a value asks for is that of the environment that it sets
 pub size_asked : (asked : Option PageSize) (env : PageEnv) → closes_page asked ≡ true → asked ≡ Some (changed_by asked with_page_size env).page_setup.size
-size_asked (Some size) env closes = refl
-size_asked None env closes = absurd (true≢false (sym closes))
+size_asked asked env closes = grind arith
 
 -- what is asked for is what changes
 pub changes_asked : {Asked : Type 0} (cause : Asked → EjectCause) (asked : Option Asked) (named : Asked) (state : State)

@@ -3,4 +3,5 @@ pub mod ChangeLemmas
 pub mod ChangingLaws
 pub mod PageKeptLemmas
 pub mod PlaceLemmas
+pub mod RefusalLaws
 pub mod worked

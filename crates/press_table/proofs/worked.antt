@@ -1,3 +1,4 @@
 -- Worked rows.
 pub mod Rectangles
+pub mod Refusals
 pub mod RowLines

@@ -19,6 +19,7 @@ pub mod Patterns
 pub mod Place
 pub mod Raster
 pub mod Rectangle
+pub mod Refusals
 pub mod Table
 pub use Rattle.press_bits.specs.Mark
 pub use Rattle.press_bits.specs.Page

@@ -7,7 +7,7 @@ use Rattle.press_units.specs.Position.{position_of}
 use Rattle.press_cursor.specs.Cursor.{moved_x, moved_y, moved_rows, moved_to_first_line, moved_home, clamped, is_left_of}
 use Rattle.press_cursor.specs.Cursor.{is_right_of, at_least, at_most, pushed, popped}
 use Rattle.press_cursor.specs.Stack.{has_room, newest}
-use Rattle.press_page.specs.Environment.{asked_top, asked_left, asked_right, set_top_margin, set_perforation_skip}
+use Rattle.press_page.specs.Environment.{asked_top, asked_skip, asked_left, asked_right, set_top_margin, set_perforation_skip}
 use Rattle.press_page.specs.Environment.{set_left_margin, set_right_margin, passes_text}
 use Rattle.press_page.specs.Settings.{half_line}
 use Rattle.press_table.specs.declared.effect.EjectCause.TheVariants as causes
@@ -109,13 +109,15 @@ change_top_margin value state =
     let after = with_environment (set_top_margin value) state in
     if is_some (asked_top value state.environment) then to_first_line after else after
 
--- ESC&l#L, perforation skip: the cursor stays as far below the top margin as it was, on the logical page; another top margin is
--- a move
+-- ESC&l#L, perforation skip: where it has effect, the cursor stays as far below the top margin as it was, on the logical page; another
+-- top margin is a move
 abbrev pub change_perforation_skip : ℤ → State → State
 change_perforation_skip value state =
     let after = with_environment (set_perforation_skip value) state in
-    ended_raster_if (not (after.environment.margins.top == state.environment.margins.top))
+    if is_some (asked_skip value state.environment)
+    then ended_raster_if (not (after.environment.margins.top == state.environment.margins.top))
     (record after { cursor = clamped (bounds after) after.cursor })
+    else after
 
 -- ESC&a#L, left margin: where it has effect, a cursor left of it moves to it
 abbrev pub change_left_margin : ℤ → State → State

@@ -1,23 +1,51 @@
 //! The commands that do no more than change the state.
 
 use crate::operation::{Operation, operation_of};
+use crate::refusal::Refusal;
 use crate::state::State;
 use press_cmd::{Command, Kind};
-use press_units::Unit;
+use press_units::{Unit, Value};
 use std::alloc::{AllocError, Global};
+
+/// What became of a command that may do no more than change the state.
+#[derive(Clone, Copy, Debug, PartialEq, Eq)]
+pub enum Changed {
+    /// It may do more, and nothing changed.
+    Other,
+    /// It was taken, and refused for this reason, if it was.
+    Took(Option<Refusal>),
+}
+
+impl Changed {
+    ghost use Rattle.std.specs.Prelude.{◌≡◌};
+    ghost use Rattle.press_table.specs.Changing.{changed_if};
+
+    /// What became of a command that was taken or not, and that is refused for this reason, if it is.
+    fn by(taken: bool, refusal: Option<Refusal>) -> Self
+        ensures { result ≡ changed_if taken refusal }
+    {
+        if taken {
+            Changed::Took(refusal)
+        } else {
+            Changed::Other
+        }
+    }
+}
 
 impl State {
     ghost use Rattle.std.specs.Prelude.{◌≡◌, true, false, IsTrue, IfOk, IsErr};
     ghost use Rattle.press_cmd.specs.Kinds.{kind_of};
     ghost use Rattle.press_cmd.specs.View.{token};
     ghost use Rattle.press_table.specs.declared.effect.Source.{Source};
-    ghost use Rattle.press_table.specs.Changing.{ChangesOrStays, RowOrStays, is_plain};
+    ghost use Rattle.press_cmd.specs.Token.{Token};
+    ghost use Rattle.press_table.specs.Changing.{ChangesOrStays, IfTook, IsValueOf, RowOrStays, is_plain, took};
     ghost use Rattle.press_table.specs.Memory.{TakesMemory};
     ghost use Rattle.press_table.specs.Outcome.{Changes};
-    ghost use Rattle.press_table.specs.Table.{effect_on, table_row, works_in_overlay};
+    ghost use Rattle.press_table.specs.Refusals.{refusal_of, row_refusal};
+    ghost use Rattle.press_table.specs.Table.{effect_on, table_row, value_of, works_in_overlay};
 
-    /// Carries a command out where it does no more than change the state, wherever it comes from, and answers whether it does. Where it
-    /// is another, nothing changes. Of some that do no more, too, it answers that they are others.
+    /// Carries a command out where it does no more than change the state, wherever it comes from, and answers whether it does, and why it
+    /// is refused, if it is. Where it is another, nothing changes. Of some that do no more, too, it answers that they are others.
     ///
     /// Source: PCL 5 Printer Language Technical Reference Manual, the commands by their sequences.
     ///
@@ -30,29 +58,33 @@ impl State {
         alloc: Global,
         command: &Command<'_>,
         kind: Kind,
-    ) -> Result<bool, AllocError>
+    ) -> Result<Changed, AllocError>
         requires { kind ≡ kind_of (token command.now) }
-        ensures changes { IfOk result (λ changes.
-            ChangesOrStays changes (token command.now) self.old self.new) }
+        ensures changes { IfOk result (λ changed.
+            ChangesOrStays (took changed) (token command.now) self.old self.new) }
+        ensures refusal { IfOk result (λ changed. IfTook changed (λ refusal.
+            refusal ≡ refusal_of (token command.now) self.old)) }
         ensures memory { IsErr result
             → (source : Source) → TakesMemory (effect_on source (token command.now) self.old) }
     {
         if self.hp_gl || self.is_recording() {
-            return Ok(false);
+            return Ok(Changed::Other);
         }
         self.change_by(alloc, operation_of(kind), command)
     }
 
-    /// Carries a row out where it does no more than change the state, and answers whether it does.
+    /// Carries a row out where it does no more than change the state, and answers whether it does, and why it is refused.
     #[inline(always)]
     fn change_by(
         &mut self,
         alloc: Global,
         operation: Operation,
         command: &Command<'_>,
-    ) -> Result<bool, AllocError>
-        ensures changes { IfOk result (λ changes.
-            RowOrStays changes operation (token command.now) self.old self.new) }
+    ) -> Result<Changed, AllocError>
+        ensures changes { IfOk result (λ changed.
+            RowOrStays (took changed) operation (token command.now) self.old self.new) }
+        ensures refusal { IfOk result (λ changed. IfTook changed (λ refusal.
+            refusal ≡ row_refusal operation (value_of (token command.now)) self.old.environment)) }
         ensures works { IsErr result → works_in_overlay operation ≡ true }
         ensures memory { IsErr result → (source : Source)
             → TakesMemory (table_row source operation (token command.now) self.old) }
@@ -60,27 +92,31 @@ impl State {
         match operation {
             Operation::TransferRow => {
                 self.transfer(alloc, command.data())?;
-                Ok(true)
+                Ok(Changed::Took(None))
             }
             Operation::Fill => {
+                let refusal = operation.refusal(command.value(), &self.environment);
                 self.fill(alloc, command.value())?;
-                Ok(true)
+                Ok(Changed::Took(refusal))
             }
-            Operation::CarriageReturn => Ok(self.return_alone()),
-            Operation::LineFeed => Ok(self.feed_alone()),
-            plain => Ok(self.set_by(plain, command)),
+            Operation::CarriageReturn => Ok(Changed::by(self.return_alone(), None)),
+            Operation::LineFeed => Ok(Changed::by(self.feed_alone(), None)),
+            plain => {
+                let value = command.value();
+                let refusal = plain.refusal(value, &self.environment);
+                Ok(Changed::by(self.set_by(plain, value), refusal))
+            }
         }
     }
 
     /// Carries a row out that does no more than change the state, whatever the value is, and answers whether it is such a row.
     #[inline(always)]
-    pub(crate) fn set_by(&mut self, operation: Operation, command: &Command<'_>) -> bool
-        ensures changed { IsTrue result → (source : Source)
-            → table_row source operation (token command.now) self.old ≡ Changes self.new }
+    pub(crate) fn set_by(&mut self, operation: Operation, value: Value) -> bool
+        ensures changed { IsTrue result → (source : Source) (command : Token)
+            → IsValueOf command value → table_row source operation command self.old ≡ Changes self.new }
         ensures unchanged { result ≡ false → self.new ≡ self.old }
         ensures plain { result ≡ is_plain operation }
     {
-        let value = command.value();
         match operation {
             Operation::Nothing => {}
             Operation::ClearMargins => self.environment.clear_margins(),
@@ -99,7 +135,9 @@ impl State {
             Operation::VerticalMotion => self.environment.set_vertical_motion(value),
             Operation::LineSpacing => self.environment.set_line_spacing(value),
             Operation::TopMargin => self.change_top_margin(value),
-            Operation::TextLength => self.environment.set_text_length(value),
+            Operation::TextLength => {
+                self.environment.set_text_length(value);
+            }
             Operation::PerforationSkip => self.change_perforation_skip(value),
             Operation::Copies => self.environment.set_copies(value),
             Operation::RectangleWidth => {

@@ -13,7 +13,7 @@ use press_raster::RasterSettings;
 use press_units::{Unit, Value};
 
 /// The greatest pattern ID.
-const GREATEST_PATTERN_ID: i64 = 32_767;
+pub(crate) const GREATEST_PATTERN_ID: i64 = 32_767;
 
 /// How marks are made: what is set beside the page environment.
 ///
@@ -34,7 +34,7 @@ pub struct Drawing {
 }
 
 /// Whether white dots are opaque, by the number of a transparency command: 0 says no, 1 says yes.
-fn is_opaque(number: i64) -> Option<bool>
+pub(crate) fn is_opaque(number: i64) -> Option<bool>
     ensures { result ≡ is_opaque number }
 {
     match number {

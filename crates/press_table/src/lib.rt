@@ -19,12 +19,15 @@ mod pattern_control;
 mod patterns;
 mod raster;
 mod rectangle;
+mod refusal;
 mod row;
 mod state;
 
 pub use calls::SavedEnvironment;
+pub use changing::Changed;
 pub use drawing::Drawing;
 pub use effect::{BodyEnd, BodyStart, Effect, EjectCause, FinishedSheet, Sent, Source};
 pub use page_kept::{may_change_page, transfers_rows};
 pub use rectangle::Rectangle;
+pub use refusal::Refusal;
 pub use state::State;

@@ -214,8 +214,12 @@ impl State {
     pub(crate) fn change_perforation_skip(&mut self, value: Value)
         ensures { self.new ≡ change_perforation_skip value.tenthousandths self.old }
     {
+        let skip = self.environment.settings.perforation_skip;
         let top = self.environment.margins.top;
         self.environment.set_perforation_skip(value);
+        if self.environment.settings.perforation_skip == skip {
+            return;
+        }
         let page = self.bounds();
         self.cursor.clamp(page);
         if self.environment.margins.top != top {

@@ -13,7 +13,7 @@ use press_units::{Pos, Value};
 use std::alloc::{AllocError, Global};
 
 /// Where rows begin by the number of `ESC * r # A`, with the cursor at `x`.
-fn start_of(number: i64, x: u32) -> Option<u32>
+pub(crate) fn start_of(number: i64, x: u32) -> Option<u32>
     ensures { result ≡ start_of number x }
 {
     match number {
@@ -24,7 +24,7 @@ fn start_of(number: i64, x: u32) -> Option<u32>
 }
 
 /// How many rows the number of `ESC * b # Y` leaves out, at least one.
-fn rows_of(value: Value) -> Option<u16>
+pub(crate) fn rows_of(value: Value) -> Option<u16>
     ensures { result ≡ asked_offset (whole_part value.tenthousandths) }
 {
     u16::try_from(value.whole()).ok().filter(|rows| *rows > 0)

@@ -11,7 +11,7 @@ impl Operation {
     ghost use Rattle.press_table.specs.Table.{works_in_hp_gl, works_in_overlay};
 
     /// Whether the row has effect while HP-GL/2 is on.
-    fn works_in_hp_gl(self) -> bool
+    pub(crate) fn works_in_hp_gl(self) -> bool
         ensures { result ≡ works_in_hp_gl self }
     {
         matches!(
@@ -75,7 +75,7 @@ impl State {
             Operation::ControlMacro => self.control_macro(source, command.value()),
             Operation::JobLanguage => self.job_language(alloc, command.line()),
             plain => {
-                self.set_by(plain, command);
+                self.set_by(plain, command.value());
                 Ok(Effect::Changes)
             }
         }
