@@ -1,5 +1,5 @@
 -- What a command begins, by cases: its item alone, the body of a macro, or that of the overlay.
-use Rattle.std.proofs.Common.{◌≡◌, ◌≢◌, ℕ, zero, suc, List, [], Option, Some, None, Bool, true, false, inl, refl}
+use Rattle.std.proofs.Common.{◌≡◌, ◌≢◌, ℕ, zero, suc, List, [], Option, Some, None, Bool, true, false, inl, refl, arith}
 use Rattle.std.specs.Prelude.{⊤}
 use Rattle.press_cmd.specs.Token.{Token}
 use Rattle.press_sink.specs.Sending.{Output}
@@ -11,7 +11,6 @@ use Rattle.press_table.specs.Closing.{finish_effect}
 use Rattle.press_table.specs.Memory.{TakesMemory}
 use Rattle.press_table.specs.Outcome.{Effect, Changes, MayAllocate, GivesReply, Stays, Closes, Starts}
 use Rattle.press_engine.specs.declared.activation.ActivationEnd.{ActivationEnd}
-use Rattle.press_engine.specs.declared.activation.ActivationEnd.TheVariants as ends_by
 use Rattle.press_engine.specs.declared.machine.Machine.{Machine}
 use Rattle.press_engine.specs.Begun.{Begun, begun_only, begun_body, begun_close, begun, end_by}
 use Rattle.press_engine.specs.TraceLaws.{IsOneStep}
@@ -50,6 +49,7 @@ alone-of : (machine : Machine) (effect : Effect) (state : State) (outputs : List
     → IsAlone machine effect (record { machine = with_state state machine; outputs = outputs })
 alone-of machine effect state outputs memory = record { last = refl; step = refl; depth = refl; memory = memory }
 
+-- By cases, and not by a search: with a wrong end in the body, a search stops here at its limit, before the law of the fold refuses it.
 module _ (machine : Machine) (P : Begun → Type 0) where
   body-cases : (in_overlay : Bool) (levels : ℕ) (commands : List Token) (end : BodyEnd) (state : State)
       → ((item : StepResult) → IsAlone machine (Starts commands end state) item → P (begun_only item))
@@ -85,13 +85,10 @@ module _ (machine : Machine) (P : Begun → Type 0) where
 
 -- What the end of a body leaves as it is, and how many bodies run after it.
 pub end-last : (end : ActivationEnd) (depth : ℕ) (machine : Machine) → (end_by end depth machine).machine.last ≡ machine.last
-end-last (ends_by.Macro end) depth machine = refl
-end-last (ends_by.Close cause kept place) depth machine = refl
+end-last end depth machine = grind arith
 
 pub end-step : (end : ActivationEnd) (depth : ℕ) (machine : Machine) → (end_by end depth machine).machine.step ≡ machine.step
-end-step (ends_by.Macro end) depth machine = refl
-end-step (ends_by.Close cause kept place) depth machine = refl
+end-step end depth machine = grind arith
 
 pub end-depth : (end : ActivationEnd) (depth : ℕ) (machine : Machine) → (end_by end depth machine).machine.depth ≡ depth
-end-depth (ends_by.Macro end) depth machine = refl
-end-depth (ends_by.Close cause kept place) depth machine = refl
+end-depth end depth machine = grind arith

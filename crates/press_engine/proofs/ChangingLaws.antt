@@ -1,18 +1,18 @@
 -- Commands that do no more than change the machine.
-use Rattle.std.proofs.Common.{◌≡◌, ◌∙◌, ℕ, [], ◌∷◌, Bool, true, false, refl, sym, ap}
+use Rattle.std.proofs.Common.{◌≡◌, ◌∙◌, ℕ, [], ◌∷◌, Bool, false, refl, ap, arith}
 use Rattle.press_cmd.specs.Token.{Token}
 use Rattle.press_cmd.specs.Kinds.{kind_of}
 use Rattle.press_table.specs.Changing as table
 use Rattle.press_table.specs.Counts.{counted}
-use Rattle.press_table.specs.Outcome.{Effect, Changes, MayAllocate, GivesReply, Stays, Closes, Starts}
+use Rattle.press_table.specs.Outcome.{Effect}
+use Rattle.press_table.specs.Refusals.{refusal_of}
 use Rattle.press_table.specs.Table.{effect_on}
 use Rattle.press_table.specs.declared.state.State.{State}
-use Rattle.press_engine.specs.declared.machine.Last.TheVariants as lasts
 use Rattle.press_engine.specs.declared.machine.Machine.{Machine}
 use Rattle.press_engine.specs.Begun.{Begun, begun, begun_only, source_in}
 use Rattle.press_engine.specs.Changing.{OnlyChanges}
 use Rattle.press_engine.specs.Fold.{run_all}
-use Rattle.press_engine.specs.Machine.{silent, with_state, taken, macro_levels}
+use Rattle.press_engine.specs.Machine.{silent, with_state, taken, carried, macro_levels}
 use Rattle.press_engine.specs.Trace.{begun_items, inside_of, trace_at}
 use Rattle.press_engine.proofs.FoldLaws.{told_all-run_all}
 use Rattle.press_engine.proofs.PassingLaws.{run-cons, run-none}
@@ -20,22 +20,12 @@ use Rattle.press_engine.proofs.PassingLaws.{run-cons, run-none}
 -- what an effect that leaves a state begins
 begun-left : (in_overlay : Bool) (levels : ℕ) (machine : Machine) (effect : Effect) (state : State) → table.Leaves effect state
     → begun in_overlay levels machine effect ≡ begun_only (silent (with_state state machine))
-begun-left true levels machine (Changes left) state is = ap (λ (now : State). begun_only (silent (with_state now machine))) is
-begun-left true levels machine (MayAllocate left) state is = ap (λ (now : State). begun_only (silent (with_state now machine))) is
-begun-left true levels machine (GivesReply reply left) state is = absurd is
-begun-left true levels machine (Stays cause left) state is = absurd is
-begun-left true levels machine (Closes cause left) state is = absurd is
-begun-left true levels machine (Starts commands end left) state is = absurd is
-begun-left false levels machine (Changes left) state is = ap (λ (now : State). begun_only (silent (with_state now machine))) is
-begun-left false levels machine (MayAllocate left) state is = ap (λ (now : State). begun_only (silent (with_state now machine))) is
-begun-left false levels machine (GivesReply reply left) state is = absurd is
-begun-left false levels machine (Stays cause left) state is = absurd is
-begun-left false levels machine (Closes cause left) state is = absurd is
-begun-left false levels machine (Starts commands end left) state is = absurd is
+begun-left in_overlay levels machine effect state is = grind arith
 
 -- a machine with this state, one step further, by a command that was carried out
 abbrev pub stepped : Token → State → Machine → Machine
-stepped command state old = record old { state = state; step = counted old.step 1; last = lasts.Ran (kind_of command) }
+stepped command state old =
+    record old { state = state; step = counted old.step 1; last = carried (kind_of command) (refusal_of command old.state) }
 
 pub only_changes : (command : Token) (old : Machine) (state : State) → table.OnlyChanges command old.state state → OnlyChanges command old (stepped command state old)
 only_changes command old state is in_overlay levels =
@@ -49,5 +39,4 @@ unfolding trace_at
 change_traced command old new is = ap (λ (begin : Begun). begun_items (inside_of (trace_at 1)) begin) (is false macro_levels)
 
 pub change_runs : (command : Token) (old new : Machine) → OnlyChanges command old new → run_all (command ∷ []) old ≡ silent new
-change_runs command old new is =
-    sym (told_all-run_all (command ∷ []) old) ∙ run-cons command [] old new (change_traced command old new is) ∙ run-none new
+change_runs command old new is = grind (arith, told_all-run_all (command ∷ []) old, run-cons command [] old new (change_traced command old new is), run-none new)

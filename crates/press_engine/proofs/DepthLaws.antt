@@ -32,8 +32,7 @@ with_end-within : (bound : ℕ) (end : Machine → StepResult) → ((machine : M
 with_end-within bound end ends item [] here all =
     All-cons (Within bound) (then_run item.outputs (end item.machine)) [] (ends item.machine) (All-nil (Within bound))
 with_end-within bound end ends item (next ∷ items) here all =
-    All-cons (Within bound) item (with_end end next items) here
-    (with_end-within bound end ends next items (All-head (Within bound) next items all) (All-tail (Within bound) next items all))
+    grind (arith, All-cons (Within bound) item (with_end end next items) here (with_end-within bound end ends next items (All-head (Within bound) next items all) (All-tail (Within bound) next items all)))
 
 each-depths : (bound room : ℕ) (one : Token → Machine → List StepResult)
     → ((command : Token) (machine : Machine) → Depths bound room machine (one command machine))
@@ -56,10 +55,7 @@ abbrev DepthsAt : (bound : ℕ) → Taking → Begun → List StepResult → Typ
 DepthsAt bound at begin items = Depths bound (room_where at.in_overlay at.levels) at.machine items
 
 alone-depths : (bound : ℕ) (at : Taking) (item : StepResult) → IsAlone (now at) (effect_at at) item → DepthsAt bound at (begun_only item) (item ∷ [])
-alone-depths bound at item is = record {
-  keeps = is.depth;
-  within = λ small. All-cons (Within bound) item [] (let same = is.depth in omega (arith, small, same)) (All-nil (Within bound));
-}
+alone-depths bound at item is = grind arith
 
 body-depths : (bound : ℕ) (at : Taking) (item : StepResult) (activation : Activation) → StartsIn at item activation
     → ((one : Token) (machine : Machine) → Depths bound (room_where activation.in_overlay activation.macro_levels) machine (items_in activation one machine))

@@ -1,10 +1,8 @@
 -- How steps of the code are put together.
-use Rattle.std.proofs.Common.{◌≡◌, ◌∙◌, ℕ, zero, suc, List, [], ◌∷◌, Bool, true, false, Result, Ok, Err, IfOk, Vec, refl, sym, ap, subst}
+use Rattle.std.proofs.Common.{◌≡◌, ◌∙◌, ℕ, zero, suc, List, ◌∷◌, Bool, true, false, Result, IfOk, Vec, refl, sym, ap, subst, arith}
 use Rattle.std.specs.declared.alloc.Global.{Global}
-use Rattle.std.proofs.lemmas.Bool.{false≢true}
 use Rattle.press_cmd.specs.Token.{Token}
 use Rattle.press_table.specs.declared.effect.Effect.{Effect}
-use Rattle.press_table.specs.declared.effect.Effect.TheVariants as effects
 use Rattle.press_table.specs.declared.effect.Sent.{Sent}
 use Rattle.press_table.specs.declared.state.State.{State}
 use Rattle.press_table.specs.Table.{effect_on}
@@ -16,25 +14,18 @@ use Rattle.press_engine.specs.Begun.{end_of, begun_only, begun, source_in, begin
 use Rattle.press_table.specs.Outcome as rows
 use Rattle.press_engine.specs.Stepping.{used_up, is_top_used_up, Stepped, ended_by, unwind, step_inner, stepped_of}
 
-ended-used : (body : List Token) (rest : List Activation) (activation : Activation) (run : StepResult) → used_up body ≡ true
-    → ended_by body rest activation (unwind rest) run ≡ unwind rest (then_run run.outputs (end_of activation run.machine))
-ended-used [] rest activation run is = refl
-ended-used (command ∷ more) rest activation run is = absurd cc
-
 pub ended-not : (body : List Token) (rest : List Activation) (activation : Activation) (run : StepResult) → used_up body ≡ false
     → ended_by body rest activation (unwind rest) run ≡ record { item = run; activations = activation ∷ rest }
-ended-not [] rest activation run is = absurd cc
-ended-not (command ∷ more) rest activation run is = refl
+ended-not body rest activation run is = grind arith
 
 -- where the innermost body is used up, its end comes first, and then the ends round it
 pub unwind-next : (activations rest : List Activation) (activation : Activation) (run : StepResult) → activations ≡ activation ∷ rest
     → used_up activation.body ≡ true → unwind rest (then_run run.outputs (end_of activation run.machine)) ≡ unwind activations run
-unwind-next activations rest activation run is used = sym (ap (λ (all : List Activation). unwind all run) is ∙ ended-used activation.body rest activation run used)
+unwind-next activations rest activation run is used = sym (ap (λ (all : List Activation). unwind all run) is ∙ grind arith)
 
 -- and where it is not, no body ends
 pub unwind-none : (activations : List Activation) (run : StepResult) → is_top_used_up activations ≡ false → record { item = run; activations = activations } ≡ unwind activations run
-unwind-none [] run is = refl
-unwind-none (activation ∷ activations) run is = sym (ended-not activation.body activations activation run is)
+unwind-none activations run is = grind (arith, ended-not)
 
 pub first-used : (activations next : List Activation) (activation : Activation) → is_top_used_up activations ≡ true → activations ≡ activation ∷ next → used_up activation.body ≡ true
 first-used activations next activation is all = ap is_top_used_up (sym all) ∙ is
@@ -62,21 +53,12 @@ pub begins-from : (in_overlay : Bool) (macro_levels : ℕ) (command : Token) (ol
     → effect_of now.state effect ≡ effect_on (source_in in_overlay macro_levels) command old.state
     → begun in_overlay macro_levels now (effect_of now.state effect) ≡ begins in_overlay macro_levels command old
 begins-from in_overlay macro_levels command old now effect is_taken gives =
-    ap (λ (machine : Machine). begun in_overlay macro_levels machine (effect_of now.state effect)) is_taken
-    ∙ begun-state in_overlay macro_levels now.state (taken command old) (effect_of now.state effect)
-    ∙ ap (begun in_overlay macro_levels (taken command old)) gives
+    grind (arith, is_taken, begun-state in_overlay macro_levels now.state (taken command old) (effect_of now.state effect), gives)
 
 -- an effect with which all is done begins nothing
 pub done-begins : (in_overlay : Bool) (more : ℕ) (machine : Machine) (effect : Effect) → is_done effect ≡ true →
     begun_only (silent machine) ≡ begun in_overlay more machine (effect_of machine.state effect)
-done-begins true more machine effects.Changes e = refl
-done-begins false more machine effects.Changes e = refl
-done-begins true more machine effects.Makes e = refl
-done-begins false more machine effects.Makes e = refl
-done-begins in_overlay more machine (effects.GivesReply reply) e = absurd (false≢true e)
-done-begins in_overlay more machine (effects.Stays cause) e = absurd (false≢true e)
-done-begins in_overlay more machine (effects.Closes cause) e = absurd (false≢true e)
-done-begins in_overlay more machine (effects.Starts body end) e = absurd (false≢true e)
+done-begins in_overlay more machine effect e = grind arith
 
 -- an answer that gives a step gives an equal one
 module _ {E : Type 0} (result : Result (Vec Sent Global) E) (new : Machine) (still : List Activation) (one : Stepped) where
@@ -92,5 +74,4 @@ pub steps-inner : {E : Type 0} (result : Result (Vec Sent Global) E) (new old : 
     (activation : Activation) (command : Token) (rest : List Token) (outer : List Activation)
     → activations ≡ record activation { body = command ∷ rest } ∷ outer
     → stepped_of new out.items still ≡ step_inner activation command rest outer old)
-steps-inner (Ok out) new old still activations one is steps = λ activation command rest outer all. steps ∙ is activation command rest outer all
-steps-inner (Err error) new old still activations one is steps = tt
+steps-inner result new old still activations one is steps = grind arith

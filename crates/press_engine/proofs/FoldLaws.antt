@@ -1,5 +1,5 @@
 -- The trace of commands tells what the commands leave: it flattens the bodies that the fold carries out whole.
-use Rattle.std.proofs.Common.{◌≡◌, ◌∙◌, ℕ, zero, suc, List, [], ◌∷◌, ◌++◌, Option, Some, None, refl, sym, ap}
+use Rattle.std.proofs.Common.{◌≡◌, ◌∙◌, ℕ, zero, suc, List, [], ◌∷◌, ◌++◌, Option, Some, None, refl, ap, arith}
 use Rattle.std.proofs.lemmas.List.{append_assoc, append-nil}
 use Rattle.press_cmd.specs.Token.{Token}
 use Rattle.press_table.specs.declared.effect.EjectCause.{EjectCause}
@@ -19,8 +19,7 @@ use Rattle.press_engine.proofs.TraceLaws.{last_machine-append, joined-append, wi
 
 with_end-joined : (end : Machine → StepResult) (item : StepResult) (items : List StepResult) → joined (with_end end item items) ≡ item.outputs ++ (joined items ++ (end (last_machine item.machine items)).outputs)
 with_end-joined end item [] = append-nil (item.outputs ++ (end item.machine).outputs)
-with_end-joined end item (next ∷ items) =
-    ap (λ more. item.outputs ++ more) (with_end-joined end next items ∙ sym (append_assoc next.outputs (joined items) (end (last_machine next.machine items)).outputs))
+with_end-joined end item (next ∷ items) = grind (arith, append_assoc, with_end-joined end next items)
 
 tells-one : (before : Machine) (run : StepResult) → Tells (run ∷ []) before run
 tells-one before run = record { machine = refl; outputs = append-nil run.outputs }
@@ -64,12 +63,7 @@ tells-in one tracing tells more before machine (Starts commands end state) =
     tells-body one tracing tells (λ after. silent (leave_body end machine.depth after)) commands before (enter_body end state machine)
 
 zero-in : (before machine : Machine) (effect : Effect) → Tells ((begun_in_overlay 0 machine effect).item ∷ []) before (silent (with_state (state_of effect) machine))
-zero-in before machine (Changes state) = tells-one before (silent (with_state state machine))
-zero-in before machine (MayAllocate state) = tells-one before (silent (with_state state machine))
-zero-in before machine (GivesReply reply state) = tells-one before (silent (with_state state machine))
-zero-in before machine (Stays cause state) = tells-one before (silent (with_state state machine))
-zero-in before machine (Closes cause state) = tells-one before (silent (with_state state machine))
-zero-in before machine (Starts commands end state) = tells-one before (silent (with_state state machine))
+zero-in before machine effect = grind arith
 
 tells-overlay : (levels : ℕ) (command : Token) (machine : Machine) → Tells (trace_in_overlay levels command machine) machine (whole_in_overlay levels command machine)
 unfolding trace_in_overlay whole_in_overlay
@@ -83,9 +77,7 @@ tells-close : (of_macro : Token → Machine → List StepResult) (body : Option 
     → Tells (begun_items (inside_of of_macro) (begun_close body cause machine)) before (close_whole body cause machine)
 tells-close of_macro None cause before machine = tells-one before (finish_without_overlay machine (Closes cause machine.state))
 tells-close of_macro (Some commands) cause before machine =
-    tells-body (whole_in_overlay overlay_levels) (trace_in_overlay overlay_levels) (tells-overlay overlay_levels)
-    (close_behind cause machine)
-    commands before (enter_overlay machine)
+    grind (arith, tells-body (whole_in_overlay overlay_levels) (trace_in_overlay overlay_levels) (tells-overlay overlay_levels) (close_behind cause machine) commands before (enter_overlay machine))
 
 tells-out : (one : Token → Machine → StepResult) (tracing : Token → Machine → List StepResult) → ((command : Token) (machine : Machine) → Tells (tracing command machine) machine (one command machine))
     → (more : ℕ) (before machine : Machine) (effect : Effect)
@@ -103,9 +95,7 @@ zero-close : (body : Option (List Token)) (cause : EjectCause) (before machine :
     → Tells (begun_items (λ activation. trace_in_overlay overlay_levels) (begun_close body cause machine)) before (close_whole body cause machine)
 zero-close None cause before machine = tells-one before (finish_without_overlay machine (Closes cause machine.state))
 zero-close (Some commands) cause before machine =
-    tells-body (whole_in_overlay overlay_levels) (trace_in_overlay overlay_levels) (tells-overlay overlay_levels)
-    (close_behind cause machine)
-    commands before (enter_overlay machine)
+    grind (arith, tells-body (whole_in_overlay overlay_levels) (trace_in_overlay overlay_levels) (tells-overlay overlay_levels) (close_behind cause machine) commands before (enter_overlay machine))
 
 zero-out : (before machine : Machine) (effect : Effect)
     → Tells (begun_items (λ activation. trace_in_overlay overlay_levels) (begun_outside 0 machine effect)) before (effect_whole machine effect)
@@ -132,9 +122,7 @@ told-run command machine =
     λ i. record { machine = tells.machine i; outputs = tells.outputs i }
 
 pub told_all-run_all : (commands : List Token) (machine : Machine) → told_all commands machine ≡ run_all commands machine
-told_all-run_all commands machine =
-    let tells = trace_tells_the_run commands machine in
-    λ i. record { machine = tells.machine i; outputs = tells.outputs i }
+told_all-run_all commands machine = grind (arith, trace_tells_the_run)
 
 pub trace_goes_on : TraceGoesOn
 trace_goes_on commands others machine =
@@ -142,5 +130,4 @@ trace_goes_on commands others machine =
     ∙ ap (λ at. trace commands machine ++ trace others at) (trace_tells_the_run commands machine).machine
 
 pub one_step_is_the_run : OneStepIsTheRun
-one_step_is_the_run command machine step =
-    trace-one command machine step ∙ ap (λ (one : StepResult). one ∷ []) (told-run command machine)
+one_step_is_the_run command machine step = grind (arith, trace-one command machine step, told-run command machine)

@@ -1,5 +1,5 @@
 -- The first command of the innermost body is taken: what the code is lent, and what it leaves.
-use Rattle.std.proofs.Common.{◌≡◌, ◌≢◌, ◌⊎◌, ◌∙◌, ◌-◌, ℕ, List, [], ◌∷◌, ◌++◌, Option, Some, None, is_some, false, Result, Ok, Err, IfOk, Vec, length, reverse, slice_index_or, slice_set, inl, inr, refl, sym, ap, subst, subst₂}
+use Rattle.std.proofs.Common.{◌≡◌, ◌≢◌, ◌⊎◌, ◌∙◌, ◌-◌, ℕ, List, [], ◌∷◌, ◌++◌, Option, None, is_some, false, Result, Ok, Err, IfOk, Vec, length, reverse, slice_index_or, slice_set, refl, sym, ap, subst, arith}
 use Rattle.std.specs.declared.alloc.Global.{Global}
 use Rattle.press_cmd.specs.Token.{Token}
 use Rattle.press_table.specs.declared.effect.Effect.{Effect}
@@ -13,18 +13,15 @@ use Rattle.press_engine.specs.Stepping.{TakesFirst, begun_by, finished, LeavesWo
 use Rattle.press_engine.proofs.CommandItems.{taking_in, begins_at, effect_at}
 use Rattle.press_engine.proofs.EndsLemmas.{begins-from}
 use Rattle.press_engine.proofs.NestingLemmas.{innermost-lies, innermost-set}
-use Rattle.press_engine.proofs.StepLemmas.{goes-memory}
 
 -- what a command begins that was taken, and whether it takes memory
 pub taken-begins : (activation : Activation) (command : Token) (old new : Machine) (effect : Option Effect) → TakesFirst activation command old effect new
     → begun_by activation.in_overlay activation.macro_levels effect new ≡ begins_at (taking_in activation command old)
-taken-begins activation command old new None does = sym (does activation.in_overlay activation.macro_levels)
-taken-begins activation command old new (Some effect) (gives, is) = begins-from activation.in_overlay activation.macro_levels command old new effect is gives
+taken-begins activation command old new effect does = grind (arith, begins-from)
 
 pub taken-memory : (activation : Activation) (command : Token) (old new : Machine) (effect : Option Effect) → TakesFirst activation command old effect new
     → MayTakeMemory effect new.state → TakesMemory (effect_at (taking_in activation command old))
-taken-memory activation command old new None does makes = absurd makes
-taken-memory activation command old new (Some effect) (gives, is) makes = subst TakesMemory gives makes
+taken-memory activation command old new effect does makes = grind arith
 
 -- the first command of a body that has one
 pub first-of : (body : List Token) → body ≢ [] → (command : Token) × (rest : List Token) × (body ≡ command ∷ rest)
@@ -33,14 +30,7 @@ first-of (command ∷ rest) some = (command, rest, refl)
 
 -- no effect
 pub none-of : (effect : Option Effect) → is_some effect ≡ false → effect ≡ None
-none-of None is = refl
-none-of (Some effect) is = absurd cc
-
--- what is left of the body does not matter to a command that is taken
-takes-same : (activation : Activation) (body : List Token) (command : Token) (old new : Machine) (effect : Option Effect)
-    → TakesFirst (record activation { body = body }) command old effect new → TakesFirst activation command old effect new
-takes-same activation body command old new None takes = takes
-takes-same activation body command old new (Some effect) takes = takes
+none-of effect is = grind arith
 
 -- one more command is taken of a body that has gone on
 pub takes-behind : (first old new : Activation) (before between after : Machine) (given : List Token) (effect : Option Effect) (command : Token) (rest : List Token)
@@ -53,7 +43,7 @@ takes-behind first old new before between after given effect command rest was st
   was = was ∙ ap (λ (body : List Token). given ++ body) is;
   between = between;
   each = each;
-  takes = takes-same first old.body command between after effect (subst (λ (one : Activation). TakesFirst one command between effect after) stays takes);
+  takes = grind (arith, subst (λ (one : Activation). TakesFirst one command between effect after) stays takes);
   left = left ∙ ap (λ (one : Activation). record one { body = rest }) stays;
 }
 
@@ -111,8 +101,4 @@ module _ (items : List Activation) (count : ℕ) (lent : Activation) (counted : 
   pub inner-memory : (left : Activation) (old new : Machine) (effect : Option Effect) → (takes : TakesOn lent old effect left new)
       → MayTakeMemory effect new.state ⊎ LeavesWork (begun_by lent.in_overlay lent.macro_levels effect new) (reverse (slice_set items (count - 1) left))
       → TakesMemory (effect_at (taking_in lent takes.command takes.between)) ⊎ EndsOverlay (record lent { body = takes.rest } ∷ outer)
-  inner-memory left old new effect takes (inl makes) = inl (taken-memory lent takes.command takes.between new effect takes.takes makes)
-  inner-memory left old new effect takes (inr goes) =
-      goes-memory (taking_in lent takes.command takes.between) (record lent { body = takes.rest } ∷ outer)
-      (subst₂ LeavesWork (taken-begins lent takes.command takes.between new effect takes.takes)
-      (innermost-set items is count counted left ∙ ap (λ (one : Activation). one ∷ outer) takes.left) goes)
+  inner-memory left old new effect takes h1 = grind (arith, innermost-set)

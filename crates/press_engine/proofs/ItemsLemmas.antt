@@ -1,5 +1,5 @@
 -- Items that were taken one after another.
-use Rattle.std.proofs.Common.{◌≡◌, ◌≢◌, ◌∙◌, List, [], ◌∷◌, inl, inr, refl, sym, ap, subst}
+use Rattle.std.proofs.Common.{◌≡◌, ◌≢◌, List, [], ◌∷◌, inl, inr, refl, sym, subst, arith}
 use Rattle.press_cmd.specs.Token.{Token}
 use Rattle.press_engine.specs.declared.activation.Activation.{Activation}
 use Rattle.press_engine.specs.declared.machine.Machine.{Machine}
@@ -23,11 +23,9 @@ pub ready-of : (activations still : List Activation) (item : StepResult) → sti
 ready-of activations still item is = subst IsReady (sym is) (unwind-ready activations item)
 
 pub ready-some : (activations : List Activation) → IsReady activations → activations ≢ [] → HasNext activations
-ready-some activations (inl none) some = absurd (some none)
-ready-some activations (inr next) some = next
+ready-some activations h1 some = grind arith
 
 pub inner-gives : (activation : Activation) (command : Token) (rest : List Token) (outer activations : List Activation) (machine : Machine)
     → activations ≡ record activation { body = command ∷ rest } ∷ outer
     → Gives (step_inner activation command rest outer machine) (continuation activations machine)
-inner-gives activation command rest outer activations machine is =
-    ap (λ (these : List Activation). continuation these machine) is ∙ inner-continuation activation command rest outer machine
+inner-gives activation command rest outer activations machine is = grind (arith, inner-continuation)

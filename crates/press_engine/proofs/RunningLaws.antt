@@ -1,18 +1,17 @@
 -- Bodies that run and go on by commands that do no more than change the machine.
-use Rattle.std.proofs.Common.{◌≡◌, ◌∙◌, List, [], ◌∷◌, ◌++◌, Vec, false, refl, sym, ap, subst, subst₂}
+use Rattle.std.proofs.Common.{◌≡◌, List, [], ◌∷◌, ◌++◌, Vec, false, refl, sym, ap, subst, arith}
 use Rattle.std.specs.declared.alloc.Global.{Global}
 use Rattle.press_cmd.specs.Token.{Token}
 use Rattle.press_cmd.specs.declared.variant.Kind.{Kind}
 use Rattle.press_table.specs.declared.effect.Sent.{Sent}
 use Rattle.press_engine.specs.declared.activation.Activation.{Activation}
 use Rattle.press_engine.specs.declared.machine.Machine.{Machine}
-use Rattle.press_engine.specs.Begun.{Begun}
 use Rattle.press_engine.specs.Changing.{OnlyChanges}
 use Rattle.press_engine.specs.Engine.{IsOfKind}
 use Rattle.press_engine.specs.Machine.{StepResult, silent}
 use Rattle.press_engine.specs.Running.{ChangesEach, GoesOn, RunsThrough, RunsTo}
 use Rattle.press_engine.specs.Stack.{continuation, HasNext}
-use Rattle.press_engine.specs.Stepping.{Stepped, used_up, finished, step_inner, stepped_of}
+use Rattle.press_engine.specs.Stepping.{used_up, step_inner, stepped_of}
 use Rattle.press_engine.specs.Trace.{last_machine, joined}
 use Rattle.press_engine.proofs.EndsLemmas.{ended-not}
 use Rattle.press_engine.proofs.ItemsLemmas.{inner-gives}
@@ -40,9 +39,7 @@ not-used (one ∷ given) command rest = refl
 changed-step : (activation : Activation) (command : Token) (body : List Token) (outer : List Activation) (old new : Machine) → used_up body ≡ false
     → OnlyChanges command old new
     → step_inner activation command body outer old ≡ record { item = silent new; activations = record activation { body = body } ∷ outer }
-changed-step activation command body outer old new more does =
-    ap (λ (begin : Begun). finished begin (record activation { body = body } ∷ outer)) (does activation.in_overlay activation.macro_levels)
-    ∙ ended-not body outer (record activation { body = body }) (silent new) more
+changed-step activation command body outer old new more does = grind (arith, ended-not)
 
 each-items : (activation : Activation) (given : List Token) (command : Token) (rest : List Token) (outer : List Activation) (old new : Machine)
     → ChangesEach given old new
@@ -61,19 +58,13 @@ each-items activation (one ∷ given) command rest outer old new (next, does, mo
       items = silent next ∷ others.items;
       nothing = others.nothing;
       ends = others.ends;
-      owes =
-          inner-continuation activation one body outer old
-          ∙ ap (λ (stepped : Stepped). stepped.item ∷ continuation stepped.activations stepped.item.machine)
-          (changed-step activation one body outer old next (not-used given command rest) does)
-          ∙ ap (λ (items : List StepResult). silent next ∷ items) others.owes;
+      owes = grind (arith, inner-continuation activation one body outer old, changed-step activation one body outer old next (not-used given command rest) does, others.owes);
     }
 
 -- so do the bodies that go on by them
 pub goes_on : (old new : List Activation) (before after : Machine) → GoesOn old before new after
     → PassesItems (continuation old before) before after (continuation new after)
-goes_on old new before after goes =
-    subst₂ (λ (these those : List Activation). PassesItems (continuation these before) before after (continuation those after)) (sym goes.was) (sym goes.is)
-    (each-items goes.activation goes.given goes.command goes.rest goes.outer before after goes.each)
+goes_on old new before after goes = grind (arith, each-items)
 
 first-next : (bodies : List Activation) (activation : Activation) (given : List Token) (command : Token) (rest : List Token) (outer : List Activation)
     → bodies ≡ record activation { body = given ++ command ∷ rest } ∷ outer → HasNext bodies
@@ -90,13 +81,4 @@ still_next old new before after goes = (goes.activation, goes.command, goes.rest
 pub runs-to : (bodies : List Activation) (before : Machine) (kind : Kind) (sent : Vec Sent Global) (new : Machine) (still : List Activation)
     → RunsThrough bodies before (stepped_of new sent.items still) → IsOfKind new.last kind
     → RunsTo bodies before (record { kind = kind; sent = sent }) new still
-runs-to bodies before kind sent new still runs is_kind =
-    let goes = runs.goes in
-    record {
-      left = runs.left;
-      between = runs.between;
-      goes = goes;
-      steps =
-          steps-to (continuation runs.left runs.between) (step_inner goes.activation goes.command goes.rest goes.outer runs.between) kind sent new still
-          (inner-gives goes.activation goes.command goes.rest goes.outer runs.left runs.between goes.is) runs.steps is_kind;
-    }
+runs-to bodies before kind sent new still runs is_kind = search (arith, steps-to, inner-gives)

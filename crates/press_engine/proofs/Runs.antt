@@ -1,5 +1,5 @@
 -- What the trace of commands leaves, one command after another.
-use Rattle.std.proofs.Common.{◌≡◌, ◌∙◌, List, [], ◌∷◌, ◌++◌, refl, ap}
+use Rattle.std.proofs.Common.{◌≡◌, List, [], ◌∷◌, ◌++◌, refl, ap, arith}
 use Rattle.std.proofs.lemmas.List.{append-nil}
 use Rattle.press_cmd.specs.Token.{Token}
 use Rattle.press_engine.specs.declared.machine.Machine.{Machine}
@@ -22,12 +22,7 @@ told_all-none machine = refl
 pub told_all-append : (commands others : List Token) (machine : Machine)
     → told_all (commands ++ others) machine
     ≡ then_run (told_all commands machine).outputs (told_all others (told_all commands machine).machine)
-told_all-append commands others machine =
-    let between = (told_all commands machine).machine in
-    let first = trace commands machine in
-    let second = trace others between in
-    ap (λ (items : List StepResult). told_by items machine) (trace-append commands others machine)
-    ∙ (λ i. record { machine = last_machine-append first second machine i; outputs = joined-append first second i })
+told_all-append commands others machine = grind (arith, trace-append, last_machine-append, joined-append)
 
 pub told_all-one : (command : Token) (machine : Machine) → told_all (command ∷ []) machine ≡ told command machine
 unfolding trace_each

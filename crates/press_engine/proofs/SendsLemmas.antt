@@ -1,29 +1,23 @@
 -- How far outputs go out, put together.
-use Rattle.std.proofs.Common.{◌≡◌, ◌≢◌, ◌∙◌, ◌<◌, ◌+◌, ◌-◌, ◌≤◌, zero, suc, arith, ℕ, List, [], ◌∷◌, ◌++◌, length, drop, append-nil, Option, None, Some, true, Result, Ok, Err, refl, sym, ap, subst}
-use Rattle.std.specs.Prelude.{nat_lt}
+use Rattle.std.proofs.Common.{◌≡◌, ◌≢◌, ◌∙◌, ◌<◌, ◌+◌, ◌-◌, ◌≤◌, zero, suc, arith, ℕ, List, [], ◌∷◌, ◌++◌, length, drop, append-nil, Option, None, Some, Result, Ok, Err, refl, sym, ap, subst}
 use Rattle.std.proofs.KnownBytes.{Appends-nil, Appends-kept}
 use Rattle.std.specs.Io.KnownBytes.{Appends}
-use Rattle.std.proofs.lemmas.Bool.Decides.{nat_tests}
 use Rattle.press_bits.specs.PrintedSheet.{PrintedSheet}
 use Rattle.press_sink.specs.declared.fault.SinkError.{SinkError}
 use Rattle.press_sink.specs.declared.fault.SinkError.TheVariants as sink_errors
 use Rattle.press_sink.specs.declared.fault.ReplyError.{ReplyError}
 use Rattle.press_sink.specs.declared.fault.ReplyError.TheVariants as reply_errors
-use Rattle.press_sink.specs.SinkLog.{SheetLog, ReplyLog, SinkLog, logs, most_faults, HasFaultRoom, Delivers, TookLast, Replies}
+use Rattle.press_sink.specs.SinkLog.{SheetLog, ReplyLog, SinkLog, logs, Delivers, TookLast, Replies}
 use Rattle.press_sink.specs.Sending.{Output, Deliver, Reply, Ending, AtSheet, AtReply, ForMemory, Complete, WentOut}
 use Rattle.press_sink.proofs.SendingLemmas.{told-nothing, WentOut-none, WentOut-then, WentOut-stopped, all-delivered}
 use Rattle.press_engine.specs.declared.fault.EngineError.{EngineError}
-use Rattle.press_engine.specs.declared.fault.EngineError.TheVariants as engine_errors
 use Rattle.press_engine.specs.Engine.{ending_of}
 use Rattle.press_table.specs.Outputs.{copy_out, next_count, copies_out, outputs_of, all_outputs}
 use Rattle.press_table.specs.declared.effect.Sent.{Sent}
 
 -- outputs do not all go out where an error is answered
 pub stops : (error : EngineError) → ending_of {X = Unit {0}} (Err error) ≡ Complete → ⊥
-stops engine_errors.SinkFault is = cc
-stops engine_errors.ReplyFault is = cc
-stops engine_errors.NoMemory is = cc
-stops engine_errors.Failed is = cc
+stops error is = grind arith
 
 -- a first part that stopped, and the exit that hands its error on
 pub WentOut-exit : (tag : ℕ) (outputs others : List Output) (first result : Result (Unit {0}) EngineError) (error : EngineError)
@@ -84,20 +78,10 @@ reply-sends old new tag bytes (Err reply_errors.NoMemory) (told, faults) sheets 
   reply_faults = faults;
 }
 
--- after outputs that all went out, the sinks can count as before
-pub has_fault_room-then : (tag : ℕ) (outputs : List Output) (before after : SinkLog) → WentOut tag outputs Complete before after → HasFaultRoom before → HasFaultRoom after
-has_fault_room-then tag outputs before after took can = record {
-  sheets = subst (λ (n : ℕ). n < most_faults) (sym took.sheet_faults) can.sheets;
-  replies = subst (λ (n : ℕ). n < most_faults) (sym took.reply_faults) can.replies;
-}
-
 -- the copies of a sheet, with the replies that follow each
 module _ (sheet : PrintedSheet) (tag done copies : ℕ) (count next : Option ℕ) (counts : next ≡ next_count count) where
   one_more : done < copies → copies_out sheet (copies - done) count ≡ copy_out sheet next ++ copies_out sheet (copies - (done + 1)) next
-  one_more below =
-      let e : copies - done ≡ suc (copies - (done + 1)) = omega arith in
-      ap (λ (n : ℕ). copies_out sheet n count) e
-      ∙ ap (λ (number : Option ℕ). copy_out sheet number ++ copies_out sheet (copies - (done + 1)) number) (sym counts)
+  one_more below = grind arith
 
   -- a copy went out, and then of the others so much
   pub WentOut-copy : (result : Result (Unit {0}) EngineError) (before between after : SinkLog) → done < copies
@@ -112,9 +96,7 @@ module _ (sheet : PrintedSheet) (tag done copies : ℕ) (count next : Option ℕ
   pub WentOut-stopped_copy : (first result : Result (Unit {0}) EngineError) (error : EngineError) (before after : SinkLog) → done < copies
       → WentOut tag (copy_out sheet next) (ending_of first) before after → first ≡ Err error → result ≡ Err error
       → WentOut tag (copies_out sheet (copies - done) count) (ending_of result) before after
-  WentOut-stopped_copy first result error before after below sends stops exits =
-      let P : List Output → Type 0 = λ outputs. WentOut tag outputs (ending_of result) before after in
-      subst P (sym (one_more below)) (WentOut-exit tag (copy_out sheet next) (copies_out sheet (copies - (done + 1)) next) first result error before after sends stops exits)
+  WentOut-stopped_copy first result error before after below sends stops exits = search (arith, one_more, WentOut-exit)
 
 -- behind a copy the sheet is what its sink took last
 pub TookLast-copy : (sheet : PrintedSheet) (tag : ℕ) (count : Option ℕ) (before after : SinkLog)
@@ -122,22 +104,12 @@ pub TookLast-copy : (sheet : PrintedSheet) (tag : ℕ) (count : Option ℕ) (bef
 TookLast-copy sheet tag None before after took = (before.sheets.delivered, all-delivered tag (copy_out sheet None) before after took)
 TookLast-copy sheet tag (Some since_job) before after took = (before.sheets.delivered, all-delivered tag (copy_out sheet (Some since_job)) before after took)
 
-pub is_later : (n : ℕ) → nat_lt 0 n ≡ true → 0 < n
-is_later n test = grind (arith, nat_tests)
-
 -- no copy is left
 pub WentOut-no_copy : (sheet : PrintedSheet) (tag done copies : ℕ) (count : Option ℕ) (told : SinkLog) → copies ≤ done → WentOut tag (copies_out sheet (copies - done) count) Complete told told
 WentOut-no_copy sheet tag done copies count told past =
     let e : copies - done ≡ 0 = omega arith in
     let P : ℕ → Type 0 = λ n. WentOut tag (copies_out sheet n count) Complete told told in
     subst P (sym e) (WentOut-none tag told)
-
--- where there is a copy, something goes out
-pub copies_out-some : (sheet : PrintedSheet) (done copies : ℕ) (count : Option ℕ) → done < copies → copies_out sheet copies count ≢ []
-copies_out-some sheet done copies count below =
-    let e : copies ≡ suc (copies - 1) = omega arith in
-    let P : ℕ → Type 0 = λ n. copies_out sheet n count ≢ [] in
-    subst P (sym e) (λ (nothing : copies_out sheet (suc (copies - 1)) count ≡ []). cc)
 
 -- where a part of the outputs is not empty, they are not
 pub some-before : (outputs others : List Output) → outputs ≢ [] → outputs ++ others ≢ []

@@ -1,12 +1,12 @@
 -- Each step gives the next of the items that the stack of running bodies owes.
-use Rattle.std.proofs.Common.{◌≡◌, ◌∙◌, List, [], ◌∷◌, ◌++◌, refl, sym, ap, subst, false}
+use Rattle.std.proofs.Common.{◌≡◌, ◌∙◌, List, [], ◌∷◌, ◌++◌, refl, sym, ap, false, arith}
 use Rattle.std.proofs.lemmas.List.{append-nil}
 use Rattle.press_cmd.specs.Token.{Token}
 use Rattle.press_engine.specs.declared.activation.Activation.{Activation}
 use Rattle.press_engine.specs.declared.machine.Machine.{Machine}
 use Rattle.press_engine.specs.Begun.{end_of}
 use Rattle.press_engine.specs.Machine.{StepResult, then_run, macro_levels}
-use Rattle.press_engine.specs.Stack.{items_in, ends_in, outwards, continuation}
+use Rattle.press_engine.specs.Stack.{items_in, outwards, continuation}
 use Rattle.press_engine.specs.Stepping.{ended_by, unwind, Gives, InnerStepIsOwed, OuterStepIsOwed}
 use Rattle.press_engine.specs.Trace.{last_machine, with_end, trace_each}
 use Rattle.press_engine.proofs.CommandItems.{Taking, taking, taking_in, begins_at, items_from, command-all}
@@ -14,15 +14,12 @@ use Rattle.press_engine.proofs.CommandItems.{Taking, taking, taking_in, begins_a
 -- the items of a command are those of the step that takes it, with the body that it starts
 items-begin : (at : Taking) → items_from at ≡ outwards (begins_at at).started ((begins_at at).item ∷ []) at.machine
 items-begin =
-    command-all (λ at begin items. items ≡ outwards begin.started (begin.item ∷ []) at.machine) (λ at item is. refl)
-    (λ at item activation starts inside. refl)
+    grind (arith, command-all (λ at begin items. items ≡ outwards begin.started (begin.item ∷ []) at.machine) (λ at item is. refl) (λ at item activation starts inside. refl))
 
 outwards-append : (started activations : List Activation) (items : List StepResult) (machine : Machine)
     → outwards (started ++ activations) items machine ≡ outwards activations (outwards started items machine) machine
 outwards-append [] activations items machine = refl
-outwards-append (activation ∷ started) activations items machine =
-    outwards-append started activations
-    (ends_in (end_of activation) (items ++ trace_each (items_in activation) activation.body (last_machine machine items))) machine
+outwards-append (activation ∷ started) activations items machine = grind (arith, outwards-append started activations)
 
 -- what is owed begins with the step's own item and what surrounds it
 continuation-begins : (activation : Activation) (command : Token) (rest : List Token) (activations : List Activation) (machine : Machine)
@@ -48,8 +45,7 @@ cons-end activations cons end item next (other ∷ items) s t = cons item next (
 outwards-cons : (activations : List Activation) (item next : StepResult) (items : List StepResult) (s t : Machine)
     → outwards activations (item ∷ next ∷ items) s ≡ item ∷ outwards activations (next ∷ items) t
 outwards-cons [] item next items s t = refl
-outwards-cons (activation ∷ activations) item next items s t =
-    cons-end activations (outwards-cons activations) (end_of activation) item next (items ++ trace_each (items_in activation) activation.body (last_machine next.machine items)) s t
+outwards-cons (activation ∷ activations) item next items s t = grind (arith, cons-end, outwards-cons activations)
 
 -- there is an item
 abbrev IsSomeItem : List StepResult → Type 0
@@ -64,18 +60,7 @@ some-end activations more end item (next ∷ items) s = more item (with_end end 
 
 outwards-some : (activations : List Activation) (item : StepResult) (items : List StepResult) (s : Machine) → IsSomeItem (outwards activations (item ∷ items) s)
 outwards-some [] item items s = (item, items, refl)
-outwards-some (activation ∷ activations) item items s =
-    some-end activations (outwards-some activations) (end_of activation) item (items ++ trace_each (items_in activation) activation.body (last_machine item.machine items)) s
-
--- what is owed where the innermost body has commands
-continuation-next : (activation : Activation) (activations : List Activation) (item first : StepResult) (items all : List StepResult)
-    (s : Machine)
-    → all ≡ first ∷ items
-    → outwards activations (ends_in (end_of activation) (item ∷ all)) s
-    ≡ item ∷ outwards activations (ends_in (end_of activation) all) item.machine
-continuation-next activation activations item first items all s e =
-    let P : List StepResult → Type 0 = λ these. outwards activations (ends_in (end_of activation) (item ∷ these)) s ≡ item ∷ outwards activations (ends_in (end_of activation) these) item.machine in
-    subst P (sym e) (cons-end activations (outwards-cons activations) (end_of activation) item first items s item.machine)
+outwards-some (activation ∷ activations) item items s = grind (arith, some-end, outwards-some activations)
 
 ends-owed : (activation : Activation) (rest : List Token) (activations : List Activation)
     → ((item : StepResult) (s : Machine) → Gives (unwind activations item) (outwards activations (item ∷ []) s))
@@ -89,9 +74,13 @@ ends-owed activation (command ∷ rest) activations popped item s =
     let begin = begins_at (taking_in activation command item.machine) in
     let first = outwards-some begin.started begin.item [] item.machine in
     let others = trace_each one rest (last_machine item.machine (one command item.machine)) in
-    continuation-next activation activations item first.0 (first.1 ++ others) (one command item.machine ++ others) s
-    (ap (λ (these : List StepResult). these ++ others)
-    (items-begin (taking_in activation command item.machine) ∙ first.2))
+    grind (
+      arith,
+      cons-end,
+      outwards-cons,
+      ap (λ (these : List StepResult). these ++ others)
+          (items-begin (taking_in activation command item.machine) ∙ first.2),
+    )
 
 pub unwind-continuation : (activations : List Activation) (item : StepResult) (s : Machine) → Gives (unwind activations item) (outwards activations (item ∷ []) s)
 unwind-continuation [] item s = refl

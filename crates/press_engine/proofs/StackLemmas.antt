@@ -3,8 +3,7 @@ use Rattle.std.proofs.Common.{◌≢◌, ◌⊎◌, ◌≤◌, ◌+◌, arith, L
 use Rattle.press_cmd.specs.Token.{Token}
 use Rattle.press_table.specs.Memory.{TakesMemory}
 use Rattle.press_engine.specs.declared.activation.Activation.{Activation}
-use Rattle.press_engine.specs.Begun.{end_of}
-use Rattle.press_engine.specs.Machine.{StepResult, then_run}
+use Rattle.press_engine.specs.Machine.{StepResult}
 use Rattle.press_engine.specs.Stack.{room_where, room_in, IsNested}
 use Rattle.press_engine.specs.Stepping.{ended_by, unwind}
 use Rattle.press_engine.proofs.CommandItems.{Taking, begins_at, effect_at, command-all}
@@ -21,8 +20,7 @@ few-bodies activations nested = let all = few activations nested in omega (arith
 ended-nested : (body : List Token) (activations : List Activation) (activation : Activation)
     → ((item : StepResult) → IsNested (unwind activations item).activations) → (item : StepResult) → IsNested (activation ∷ activations)
     → IsNested (ended_by body activations activation (unwind activations) item).activations
-ended-nested [] activations activation outer item nested = outer (then_run item.outputs (end_of activation item.machine))
-ended-nested (command ∷ rest) activations activation outer item nested = nested
+ended-nested body activations activation outer item nested = grind arith
 
 pub unwind-nested : (activations : List Activation) (item : StepResult) → IsNested activations → IsNested (unwind activations item).activations
 unwind-nested [] item nested = nested

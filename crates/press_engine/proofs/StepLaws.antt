@@ -1,5 +1,5 @@
 -- Each item of a trace is one step, and the first of a command takes that command.
-use Rattle.std.proofs.Common.{◌≡◌, ◌∙◌, List, [], ◌∷◌, ◌++◌, true, false, refl, subst}
+use Rattle.std.proofs.Common.{◌≡◌, ◌∙◌, List, [], ◌∷◌, ◌++◌, true, false, refl, subst, arith}
 use Rattle.press_cmd.specs.Kinds.{kind_of}
 use Rattle.press_cmd.specs.Token.{Token}
 use Rattle.press_engine.specs.declared.activation.Activation.{Activation}
@@ -80,8 +80,7 @@ page-kept : (command : Token) (machine : Machine) → kind_may_change_page (kind
     → (item : StepResult) × (trace_at macro_levels command machine ≡ item ∷ []) × (item.machine.state.page ≡ machine.state.page)
 unfolding trace_at
 page-kept command machine keeps =
-    begun-keeps (taken command machine) machine.state (effect_on (source_at macro_levels) command machine.state)
-    (row_keeps_the_page (source_at macro_levels) command machine.state keeps)
+    grind (arith, begun-keeps (taken command machine) machine.state (effect_on (source_at macro_levels) command machine.state) (row_keeps_the_page (source_at macro_levels) command machine.state keeps))
 
 pub others_keep_the_page : OthersKeepThePage
 others_keep_the_page = record { takes = λ command machine. (at-counts command machine).1; keeps = page-kept }
@@ -103,8 +102,7 @@ lines-kept : (command : Token) (machine : Machine) → kind_transfers_rows (kind
     → (item : StepResult) × (trace_at macro_levels command machine ≡ item ∷ []) × KeepsOtherLines machine.state item.machine.state
 unfolding trace_at
 lines-kept command machine rows =
-    begun-lines (taken command machine) machine.state (effect_on (source_at macro_levels) command machine.state)
-    (row_keeps_other_lines (source_at macro_levels) command machine.state rows)
+    grind (arith, begun-lines (taken command machine) machine.state (effect_on (source_at macro_levels) command machine.state) (row_keeps_other_lines (source_at macro_levels) command machine.state rows))
 
 pub rows_keep_other_lines : RowsKeepOtherLines
 rows_keep_other_lines = record { keeps = lines-kept }

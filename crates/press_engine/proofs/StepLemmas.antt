@@ -1,40 +1,28 @@
 -- What a step says of the bodies that run, of the command that it took, and of memory.
-use Rattle.std.proofs.Common.{◌≡◌, ◌≢◌, ◌⊎◌, ◌≤◌, ◌∙◌, ℕ, List, [], ◌∷◌, ◌++◌, Bool, true, false, if◌then◌else◌, Result, Ok, Err, IsErr, Vec, inl, inr, refl, sym, subst}
+use Rattle.std.proofs.Common.{◌≡◌, ◌≢◌, ◌⊎◌, ◌≤◌, ◌∙◌, List, [], ◌∷◌, ◌++◌, Bool, true, if◌then◌else◌, Option, Result, Err, IsErr, Vec, inl, inr, refl, sym, subst, arith}
 use Rattle.std.specs.declared.alloc.Global.{Global}
 use Rattle.press_cmd.specs.Token.{Token}
-use Rattle.press_sink.specs.Sending.{Output}
 use Rattle.press_cmd.specs.Kinds.{kind_of}
 use Rattle.press_cmd.specs.declared.variant.Kind.{Kind}
 use Rattle.press_table.specs.declared.effect.Sent.{Sent}
+use Rattle.press_table.specs.declared.refusal.Refusal.{Refusal}
 use Rattle.press_engine.specs.declared.activation.Activation.{Activation}
-use Rattle.press_engine.specs.declared.activation.ActivationEnd.{ActivationEnd}
-use Rattle.press_engine.specs.declared.activation.ActivationEnd.TheVariants as ends_by
 use Rattle.press_engine.specs.declared.machine.Last.{Last}
 use Rattle.press_engine.specs.declared.machine.Last.TheVariants as lasts
 use Rattle.press_engine.specs.declared.machine.Machine.{Machine}
 use Rattle.press_table.specs.Memory.{TakesMemory}
-use Rattle.press_table.specs.Table.{is_recorded}
-use Rattle.press_engine.specs.Begun.{Begun, end_by, end_of}
+use Rattle.press_engine.specs.Begun.{Begun, end_of}
 use Rattle.press_engine.specs.Engine.{IsOfKind, StepsTo}
-use Rattle.press_engine.specs.Machine.{StepResult, then_run, last_of}
-use Rattle.press_engine.specs.Stack.{continuation, room_where, room_in, IsNested, IsSound, IsOverlayEnd, EndsOverlay}
+use Rattle.press_engine.specs.Machine.{StepResult, then_run, carried, last_of}
+use Rattle.press_engine.specs.Stack.{room_where, room_in, IsNested, IsSound, IsOverlayEnd, EndsOverlay}
 use Rattle.press_engine.specs.Stepping.{used_up, Stepped, ended_by, unwind, finished, Gives, stepped_of, LeavesWork}
-use Rattle.press_engine.proofs.BegunLemmas.{end-last}
 use Rattle.press_engine.proofs.CommandItems.{Taking, now, begins_at, effect_at, command-all}
 use Rattle.press_engine.proofs.ItemsLemmas.{ready-of}
 use Rattle.press_engine.proofs.StackLemmas.{unwind-nested, begins-nested, begins-wants}
 
--- What a step took is not changed by what it begins, nor by ends.
-ended-last : (body : List Token) (activations : List Activation) (activation : Activation)
-    → ((item : StepResult) → (unwind activations item).item.machine.last ≡ item.machine.last) → (item : StepResult)
-    → (ended_by body activations activation (unwind activations) item).item.machine.last ≡ item.machine.last
-ended-last [] activations activation outer item =
-    outer (then_run item.outputs (end_of activation item.machine)) ∙ end-last activation.end activation.depth item.machine
-ended-last (command ∷ rest) activations activation outer item = refl
-
 unwind-last : (activations : List Activation) (item : StepResult) → (unwind activations item).item.machine.last ≡ item.machine.last
 unwind-last [] item = refl
-unwind-last (activation ∷ activations) item = ended-last activation.body activations activation (unwind-last activations) item
+unwind-last (activation ∷ activations) item = grind (arith, unwind-last activations)
 
 pub step-last : (at : Taking) (round : List Activation) → (finished (begins_at at) round).item.machine.last ≡ (now at).last
 step-last at round =
@@ -42,19 +30,14 @@ step-last at round =
     ∙ command-all (λ at begin items. begin.item.machine.last ≡ (now at).last) (λ at item is. is.last) (λ at item activation starts inside. starts.last) at
 
 -- it is of the command's kind
-kind-if : (recorded : Bool) (kind : Kind) → IsOfKind (if recorded then lasts.Recorded kind else lasts.Ran kind) kind
-kind-if true kind = refl
-kind-if false kind = refl
+kind-if : (recorded : Bool) (kind : Kind) (refusal : Option Refusal) → IsOfKind (if recorded then lasts.Recorded kind else carried kind refusal) kind
+kind-if recorded kind refusal = grind arith
 
 pub last-kind : (command : Token) (machine : Machine) (last : Last) → last ≡ last_of command machine.state → IsOfKind last (kind_of command)
-last-kind command machine last is =
-    let P : Last → Type 0 = λ last. IsOfKind last (kind_of command) in
-    subst P (sym is) (kind-if (is_recorded command machine.state) (kind_of command))
+last-kind command machine last is = grind (arith, kind-if)
 
 some-last : (last : Last) (kind : Kind) → IsOfKind last kind → last ≢ lasts.Nothing
-some-last lasts.Nothing kind of_kind = absurd of_kind
-some-last (lasts.Ran one) kind of_kind = λ (nothing : lasts.Ran one ≡ lasts.Nothing). cc
-some-last (lasts.Recorded one) kind of_kind = λ (nothing : lasts.Recorded one ≡ lasts.Nothing). cc
+some-last last kind of_kind = grind arith
 
 pub taken-last : (command : Token) (machine : Machine) (last : Last) → last ≡ last_of command machine.state → last ≢ lasts.Nothing
 taken-last command machine last is = some-last last (kind_of command) (last-kind command machine last is)
@@ -64,10 +47,7 @@ pub steps-to : (owing : List StepResult) (stepped : Stepped) (kind : Kind) (sent
     (still : List Activation)
     → Gives stepped owing → stepped_of new sent.items still ≡ stepped → IsOfKind new.last kind
     → StepsTo owing (record { kind = kind; sent = sent }) new still
-steps-to owing stepped kind sent new still gives is of_kind = record {
-  kind = of_kind;
-  owes = gives ∙ (λ i. (sym is i).item ∷ continuation (sym is i).activations (sym is i).item.machine);
-}
+steps-to owing stepped kind sent new still gives is of_kind = grind arith
 
 -- the bodies between two steps
 pub step-sound : (at : Taking) (round still : List Activation) → IsNested round → room_where at.in_overlay at.levels ≤ room_in round
@@ -81,54 +61,25 @@ step-sound at round still nested room is =
 
 -- an answer that was an error
 pub is_err-of : {X E : Type 0} (result : Result X E) (error : E) → result ≡ Err error → IsErr result
-is_err-of (Ok value) error is = absurd cc
-is_err-of (Err other) error is = refl
-
--- the innermost body ends, and an overlay with it or behind it
-used-none : (body : List Token) → used_up body ≡ true → body ≡ []
-used-none [] is = refl
-used-none (command ∷ rest) is = absurd cc
+is_err-of result error is = grind arith
 
 pub ends-overlay : (activations rest : List Activation) (activation : Activation) → activations ≡ activation ∷ rest
     → used_up activation.body ≡ true → IsOverlayEnd activation.end ⊎ EndsOverlay rest → EndsOverlay activations
-ends-overlay activations rest activation is used ends = subst EndsOverlay (sym is) (used-none activation.body used, ends)
+ends-overlay activations rest activation is used ends = subst EndsOverlay (sym is) (grind arith, ends)
 
 -- where the rest of a step may take memory, so may the command, or an overlay ends with it
 pub goes-memory : (at : Taking) (round : List Activation) → LeavesWork (begins_at at) round → TakesMemory (effect_at at) ⊎ EndsOverlay round
-goes-memory at round (inl some) = inl (begins-wants at (inl some))
-goes-memory at round (inr (inl some)) = inl (begins-wants at (inr some))
-goes-memory at round (inr (inr ends)) = inr ends
+goes-memory at round h1 = grind (arith, begins-wants)
 
 -- no overlay ends where no body runs
 pub no-overlay : {X : Type 0} → X ⊎ EndsOverlay [] → X
-no-overlay (inl one) = one
-no-overlay (inr ends) = absurd ends
-
--- Where something goes out in a step, its beginning lets it out, or an overlay ends.
-append-some : (one other : List Output) → one ++ other ≢ [] → (one ≢ []) ⊎ (other ≢ [])
-append-some [] other some = inr some
-append-some (output ∷ one) other some = inl (λ (none : output ∷ one ≡ []). cc)
-
-end-sends : (end : ActivationEnd) (depth : ℕ) (machine : Machine) → (end_by end depth machine).outputs ≢ [] → IsOverlayEnd end
-end-sends (ends_by.Macro end) depth machine some = absurd (some refl)
-end-sends (ends_by.Close cause kept place) depth machine some = tt
-
-over-end : (activation : Activation) (activations : List Activation) (item : StepResult) → activation.body ≡ []
-    → (item.outputs ≢ []) ⊎ ((end_of activation item.machine).outputs ≢ []) → (item.outputs ≢ []) ⊎ EndsOverlay (activation ∷ activations)
-over-end activation activations item used (inl some) = inl some
-over-end activation activations item used (inr some) = inr (used, inl (end-sends activation.end activation.depth item.machine some))
-
-over-rest : (activation : Activation) (activations : List Activation) (item : StepResult) → activation.body ≡ []
-    → (item.outputs ++ (end_of activation item.machine).outputs ≢ []) ⊎ EndsOverlay activations
-    → (item.outputs ≢ []) ⊎ EndsOverlay (activation ∷ activations)
-over-rest activation activations item used (inl some) = over-end activation activations item used (append-some item.outputs (end_of activation item.machine).outputs some)
-over-rest activation activations item used (inr ends) = inr (used, inr ends)
+no-overlay h1 = grind arith
 
 ended-sends : (body : List Token) (activations : List Activation) (activation : Activation) → activation.body ≡ body
     → ((item : StepResult) → (unwind activations item).item.outputs ≢ [] → (item.outputs ≢ []) ⊎ EndsOverlay activations)
     → (item : StepResult) → (ended_by body activations activation (unwind activations) item).item.outputs ≢ []
     → (item.outputs ≢ []) ⊎ EndsOverlay (activation ∷ activations)
-ended-sends [] activations activation used outer item some = over-rest activation activations item used (outer (then_run item.outputs (end_of activation item.machine)) some)
+ended-sends [] activations activation used outer item some = grind (arith, outer (then_run item.outputs (end_of activation item.machine)) some)
 ended-sends (command ∷ rest) activations activation used outer item some = inl some
 
 pub unwind-sends : (activations : List Activation) (item : StepResult) → (unwind activations item).item.outputs ≢ [] → (item.outputs ≢ []) ⊎ EndsOverlay activations

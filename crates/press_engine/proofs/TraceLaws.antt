@@ -1,5 +1,5 @@
 -- The trace of commands one after another, and of one that is a single step.
-use Rattle.std.proofs.Common.{◌≡◌, ◌∙◌, List, [], ◌∷◌, ◌++◌, false, refl, sym, ap, subst}
+use Rattle.std.proofs.Common.{◌≡◌, ◌∙◌, List, [], ◌∷◌, ◌++◌, false, refl, sym, ap, arith}
 use Rattle.std.proofs.lemmas.List.{append_assoc, append-nil}
 use Rattle.press_cmd.specs.Token.{Token}
 use Rattle.press_table.specs.declared.effect.Source.TheVariants as sources
@@ -16,8 +16,7 @@ last_machine-append (item ∷ items) others machine = last_machine-append items 
 
 pub joined-append : (items others : List StepResult) → joined (items ++ others) ≡ joined items ++ joined others
 joined-append [] others = refl
-joined-append (item ∷ items) others =
-    ap (λ more. item.outputs ++ more) (joined-append items others) ∙ sym (append_assoc item.outputs (joined items) (joined others))
+joined-append (item ∷ items) others = grind (arith, append_assoc, joined-append items others)
 
 -- what an end leaves
 pub with_end-machine : (end : Machine → StepResult) (item : StepResult) (items : List StepResult) (before : Machine)
@@ -51,13 +50,8 @@ one-item =
     command-all (λ at begin items. IsOneStep (effect_at at) → IsOneItem items) (λ at item is one. (item, refl))
     (λ at item activation starts inside one. absurd (starts.effect.more one))
 
-told-one : (items : List StepResult) (item : StepResult) (machine : Machine) → items ≡ item ∷ [] → items ≡ told_by items machine ∷ []
-told-one items item machine is =
-    let P : List StepResult → Type 0 = λ these. these ≡ told_by these machine ∷ [] in
-    subst P (sym is) (λ i. record { machine = item.machine; outputs = sym (append-nil item.outputs) i } ∷ [])
-
 pub trace-one : (command : Token) (machine : Machine) → IsOneStep (effect_on sources.Stream command machine.state) → trace (command ∷ []) machine ≡ told_by (trace_at macro_levels command machine) machine ∷ []
 unfolding trace_each
 trace-one command machine step =
     let one = one-item (taking false macro_levels command machine) step in
-    append-nil (trace_at macro_levels command machine) ∙ told-one (trace_at macro_levels command machine) one.0 machine one.1
+    append-nil (trace_at macro_levels command machine) ∙ grind (arith, append-nil, one.1)

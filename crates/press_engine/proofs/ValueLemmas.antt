@@ -1,5 +1,5 @@
 -- A step as a value, and what the sinks took of it.
-use Rattle.std.proofs.Common.{◌≡◌, ◌≢◌, ◌⊎◌, ◌∙◌, ℕ, List, [], ◌∷◌, Option, Some, None, false, Result, Ok, Err, inl, inr, refl, sym, ap, subst}
+use Rattle.std.proofs.Common.{◌≡◌, ◌≢◌, ◌⊎◌, ◌∙◌, ℕ, List, [], ◌∷◌, Option, None, false, Result, Ok, Err, refl, sym, ap, subst, arith}
 use Rattle.press_cmd.specs.Token.{Token}
 use Rattle.press_cmd.specs.declared.variant.Kind.{Kind}
 use Rattle.press_sink.specs.Sending.{Output, Complete, WentOut}
@@ -16,7 +16,7 @@ use Rattle.press_engine.specs.Engine.{ending_of, Steps, TakesItem, TakesNext, Ne
 use Rattle.press_engine.specs.Machine.{StepResult, macro_levels}
 use Rattle.press_table.specs.Outputs.{all_outputs}
 use Rattle.press_engine.specs.Stack.{continuation, HasNext}
-use Rattle.press_engine.specs.Stepping.{step_outer, step_inner}
+use Rattle.press_engine.specs.Stepping.{step_inner}
 use Rattle.press_table.specs.Table.{effect_on}
 use Rattle.press_engine.specs.Trace.{trace_at}
 use Rattle.press_engine.proofs.ItemsLemmas.{inner-gives}
@@ -83,11 +83,7 @@ takes-failed : (old : Option Machine) (owing : Machine → List StepResult) (tag
     → ((machine : Machine) → owing machine ≢ []) → (error ≡ engine_errors.Failed) ⊎ (error ≡ engine_errors.NoMemory)
     → (error ≡ engine_errors.Failed → old ≡ None) → new ≡ None → still ≡ []
     → TakesNext old owing (Err error) new still (under tag told told)
-takes-failed None owing tag error new still told some refused failed fails none = (fails, refl)
-takes-failed (Some machine) owing tag error new still told some (inl is) failed fails none = absurd (let no : Some machine ≡ None = failed is in cc)
-takes-failed (Some machine) owing tag error new still told some (inr is) failed fails none =
-    let P : EngineError → Type 0 = λ one. TakesItem (owing machine) (Err one) new still (under tag told told) in
-    subst P (sym is) (stopped-at (owing machine) tag new still told (some machine) fails none)
+takes-failed old owing tag error new still told some refused failed fails none = grind (arith, stopped-at)
 
 -- and one for which memory ran out, or which an engine refused that had failed before
 pub takes-none : (old : Option Machine) (owing : Machine → List StepResult) (tag : ℕ) (result : Result Kind EngineError)
@@ -95,16 +91,11 @@ pub takes-none : (old : Option Machine) (owing : Machine → List StepResult) (t
     → ((machine : Machine) → owing machine ≢ []) → (error ≡ engine_errors.Failed) ⊎ (error ≡ engine_errors.NoMemory)
     → (error ≡ engine_errors.Failed → old ≡ None) → result ≡ Err error → new ≡ None → still ≡ []
     → TakesNext old owing result new still (under tag told told)
-takes-none old owing tag result error new still told some refused failed exits fails none =
-    let Q : Result Kind EngineError → Type 0 = λ answer. TakesNext old owing answer new still (under tag told told) in
-    subst Q (sym exits) (takes-failed old owing tag error new still told some refused failed fails none)
+takes-none old owing tag result error new still told some refused failed exits fails none = grind (arith, takes-failed)
 
 -- a step is owed
 pub outer-some : (command : Token) (machine : Machine) → trace_at macro_levels command machine ≢ []
-outer-some command machine =
-    let P : List StepResult → Type 0 = λ items. items ≢ [] in
-    let stepped = step_outer command machine in
-    subst P (sym (outer-continuation command machine)) (λ (none : stepped.item ∷ continuation stepped.activations stepped.item.machine ≡ []). cc)
+outer-some command machine = grind (arith, outer-continuation)
 
 pub inner-some : (activations : List Activation) (machine : Machine) → HasNext activations → continuation activations machine ≢ []
 inner-some activations machine (activation, command, rest, outer, is) =
@@ -129,13 +120,9 @@ wants-inner activations machine item others (activation, command, rest, outer, i
 -- so may a step
 pub needs-outer : (command : Token) (step : StepOutput) (old new : Option Machine) (still : List Activation)
     → Steps old (trace_at macro_levels command) step new still → all_outputs step.sent.items ≢ [] → NeedsMemory old command
-needs-outer command step old new still s some =
-    let P : Option Machine → Type 0 = λ from. NeedsMemory from command in
-    subst P (sym s.was) (wants-outer command s.before (record { machine = s.after; outputs = all_outputs step.sent.items }) (continuation still s.after) s.steps.owes some)
+needs-outer command step old new still s some = grind (arith, wants-outer)
 
 pub needs-inner : (activations : List Activation) (step : StepOutput) (old new : Option Machine) (still : List Activation)
     → HasNext activations → Steps old (continuation activations) step new still → all_outputs step.sent.items ≢ []
     → InnerNeedsMemory old activations
-needs-inner activations step old new still next s some =
-    let P : Option Machine → Type 0 = λ from. InnerNeedsMemory from activations in
-    subst P (sym s.was) (wants-inner activations s.before (record { machine = s.after; outputs = all_outputs step.sent.items }) (continuation still s.after) next s.steps.owes some)
+needs-inner activations step old new still next s some = grind (arith, wants-inner)

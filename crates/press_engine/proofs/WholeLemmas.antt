@@ -1,5 +1,5 @@
 -- Steps of an engine one after another, until no body runs: a whole command.
-use Rattle.std.proofs.Common.{◌≡◌, ◌≢◌, ◌∙◌, ◌<◌, arith, ℕ, List, [], ◌∷◌, ◌++◌, length, Option, Some, None, Bool, true, false, if◌then◌else◌, Result, Ok, Err, MatchResult, inr, refl, sym, ap, subst}
+use Rattle.std.proofs.Common.{◌≡◌, ◌≢◌, ◌∙◌, ◌<◌, arith, ℕ, List, [], ◌∷◌, ◌++◌, length, Option, Some, None, false, Result, Ok, Err, MatchResult, inr, refl, sym, ap, subst}
 use Rattle.press_cmd.specs.Token.{Token}
 use Rattle.press_cmd.specs.declared.variant.Kind.{Kind}
 use Rattle.press_sink.specs.SinkLog.{SinkLog, HasFaultRoom, under}
@@ -16,7 +16,7 @@ use Rattle.press_engine.specs.Stack.{continuation, HasNext}
 use Rattle.press_engine.specs.Stepping.{unwind}
 use Rattle.press_engine.specs.Trace.{joined, trace_at, told_by}
 use Rattle.press_engine.proofs.FoldLaws.{told-run}
-use Rattle.press_engine.proofs.SendsLemmas.{WentOut-exit, has_fault_room-then}
+use Rattle.press_engine.proofs.SendsLemmas.{WentOut-exit}
 use Rattle.press_engine.proofs.StackLaws.{outer-continuation}
 use Rattle.press_engine.proofs.StackLemmas.{begins-wants}
 use Rattle.press_engine.proofs.CommandItems.{taking}
@@ -51,10 +51,7 @@ module _ (owing : Machine → List StepResult) (tag : ℕ) where
       (new : Option Machine) (before between after : SinkLog)
       → TakesNext old owing (Ok kind) mid still (under tag before between)
       → LeavesAll mid (continuation still) tag result new between after → LeavesAll old owing tag result new before after
-  next-leaves None mid kind still result new before between after takes rest =
-      let P : Option Machine → Type 0 = λ at. LeavesAll at (continuation still) tag result new between after in
-      subst P takes.0 rest
-  next-leaves (Some machine) mid kind still result new before between after takes rest = next-item machine mid kind still result new before between after takes rest
+  next-leaves old mid kind still result new before between after takes rest = grind (arith, next-item)
 
   -- a step at which it stopped
   stop-item : (machine : Machine) (error : EngineError) (new : Option Machine) (still : List Activation) (before after : SinkLog)
@@ -68,11 +65,7 @@ module _ (owing : Machine → List StepResult) (tag : ℕ) where
       (new : Option Machine) (still : List Activation) (before after : SinkLog)
       → old ≢ None → TakesNext old owing result new still (under tag before after) → result ≡ Err error → exit ≡ Err error
       → LeavesAll old owing tag exit new before after
-  stop-leaves None result exit error new still before after alive takes is exits = absurd (alive refl)
-  stop-leaves (Some machine) result exit error new still before after alive takes is exits =
-      let P : Result Kind EngineError → Type 0 = λ answer. TakesItem (owing machine) answer new still (under tag before after) in
-      let Q : Result (Unit {0}) EngineError → Type 0 = λ answer. Leaves (told_by (owing machine) machine) tag answer new before after in
-      subst Q (sym exits) (stop-item machine error new still before after (subst P is takes))
+  stop-leaves old result exit error new still before after alive takes is exits = grind (arith, stop-item)
 
 -- no body runs any more
 pub none-leaves : (old : Option Machine) (still : List Activation) (tag : ℕ) (told : SinkLog) → old ≢ None → still ≡ [] → LeavesAll old (continuation still) tag (Ok tt) old told told
@@ -85,21 +78,14 @@ none-leaves (Some machine) still tag told alive none =
 pub runs-of : (old : Option Machine) (command : Token) (tag : ℕ) (result : Result (Unit {0}) EngineError) (new : Option Machine)
     (before after : SinkLog)
     → LeavesAll old (trace_at macro_levels command) tag result new before after → Runs old command result new (under tag before after)
-runs-of None command tag result new before after leaves = absurd leaves
-runs-of (Some machine) command tag result new before after leaves =
-    let there = subst (λ (one : StepResult). Leaves one tag result new before after) (told-run command machine) leaves in
-    (there.left, there.sends)
+runs-of old command tag result new before after leaves = grind (arith, told-run)
 
 -- the first step stopped
 pub runs-stopped : (old : Option Machine) (command : Token) (tag : ℕ) (result : Result Kind EngineError)
     (exit : Result (Unit {0}) EngineError) (error : EngineError) (new : Option Machine) (still : List Activation) (before after : SinkLog)
     → TakesNext old (trace_at macro_levels command) result new still (under tag before after) → result ≡ Err error → exit ≡ Err error
     → Runs old command exit new (under tag before after)
-runs-stopped None command tag result exit error new still before after takes is exits = takes
-runs-stopped (Some machine) command tag result exit error new still before after takes is exits =
-    runs-of (Some machine) command tag exit new before after
-    (stop-leaves (trace_at macro_levels command) tag (Some machine) result exit error new still before after
-    (λ (none : Some machine ≡ None). cc) takes is exits)
+runs-stopped old command tag result exit error new still before after takes is exits = grind (arith, runs-of, stop-leaves)
 
 -- how many steps are owed
 abbrev pub steps_owed : Option Machine → (Machine → List StepResult) → ℕ
@@ -113,15 +99,10 @@ module _ (owing : Machine → List StepResult) (tag : ℕ) (mid : Option Machine
   alive-then (Some machine) alive takes none = let no : Some takes.item.machine ≡ None = sym takes.left.1 ∙ none in cc
 
   pub counts-then : (old : Option Machine) → old ≢ None → TakesNext old owing (Ok kind) mid still (under tag before after) → HasFaultRoom before → HasFaultRoom after
-  counts-then None alive takes can = absurd (alive refl)
-  counts-then (Some machine) alive takes can = has_fault_room-then tag takes.item.outputs before after takes.sends can
+  counts-then old alive takes can = grind arith
 
   pub fewer-steps : (old : Option Machine) → old ≢ None → TakesNext old owing (Ok kind) mid still (under tag before after) → steps_owed mid (continuation still) < steps_owed old owing
-  fewer-steps None alive takes = absurd (alive refl)
-  fewer-steps (Some machine) alive takes =
-      let now : steps_owed mid (continuation still) ≡ length takes.others = ap (λ (at : Option Machine). steps_owed at (continuation still)) takes.left.1 ∙ ap length (sym takes.left.2) in
-      let all : length (owing machine) ≡ length (takes.item ∷ takes.others) = ap length takes.due in
-      omega (arith, now, all)
+  fewer-steps old alive takes = grind arith
 
 abbrev other_items : List StepResult → List StepResult
 other_items [] = []
@@ -140,19 +121,11 @@ wants-more (Some machine) command tag mid kind still before after alive takes ne
     begins-wants (taking false macro_levels command machine)
     (inr (λ none. inner-some still takes.item.machine next (subst none_owed none rest)))
 
--- an engine that has failed runs no body
-none-if : (failed : Bool) (machine : Machine) (activations : List Activation) → (if failed then None else Some machine) ≡ None → (if failed then [] else activations) ≡ []
-none-if true machine activations is = refl
-none-if false machine activations is = absurd cc
-
 pub failed-none : (engine : Engine) → machine_of engine ≡ None → bodies engine ≡ []
-failed-none engine is = none-if engine.failed engine.machine.value engine.bodies is
+failed-none engine is = grind arith
 
 -- an engine whose step stopped has failed
 pub stopped-none : (old : Option Machine) (owing : Machine → List StepResult) (tag : ℕ) (result : Result Kind EngineError)
     (error : EngineError) (new : Option Machine) (still : List Activation) (before after : SinkLog)
     → TakesNext old owing result new still (under tag before after) → result ≡ Err error → new ≡ None
-stopped-none None owing tag result error new still before after takes is = takes.0
-stopped-none (Some machine) owing tag result error new still before after takes is =
-    let P : Result Kind EngineError → Type 0 = λ answer. TakesItem (owing machine) answer new still (under tag before after) in
-    (subst P is takes).left.0
+stopped-none old owing tag result error new still before after takes is = grind arith

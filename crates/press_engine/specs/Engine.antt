@@ -56,6 +56,7 @@ abbrev pub IsOfKind : Last → Kind → Type 0
 IsOfKind lasts.Nothing kind = ⊥
 IsOfKind (lasts.Ran one) kind = kind ≡ one
 IsOfKind (lasts.Recorded one) kind = kind ≡ one
+IsOfKind (lasts.Refused one refusal) kind = kind ≡ one
 
 -- An engine that owed these items took a step. Where all went well, its machine is that of the first of them, what it still
 -- owes are the others, and the answer is the command's kind; else the engine has failed, and no body runs. The outputs of

@@ -1,7 +1,8 @@
 -- The machine round the state, and what starts and ends of bodies do to it.
-use Rattle.std.specs.Prelude.{ℕ, ◌+◌, ◌==◌, min, if◌then◌else◌, List, [], ◌++◌}
+use Rattle.std.specs.Prelude.{ℕ, ◌+◌, ◌==◌, min, if◌then◌else◌, List, [], ◌++◌, Option, Some, None}
 use Rattle.press_cmd.specs.Token.{Token}
 use Rattle.press_cmd.specs.Kinds.{kind_of}
+use Rattle.press_cmd.specs.declared.variant.Kind.{Kind}
 use Rattle.press_sink.specs.Sending.{Output}
 use Rattle.press_table.specs.declared.effect.BodyEnd.{BodyEnd}
 use Rattle.press_table.specs.declared.effect.Source.{Source}
@@ -9,6 +10,7 @@ use Rattle.press_table.specs.declared.effect.Source.TheVariants as sources
 use Rattle.press_engine.specs.declared.machine.Last.{Last}
 use Rattle.press_engine.specs.declared.machine.Last.TheVariants as lasts
 use Rattle.press_engine.specs.declared.machine.Machine.{Machine}
+use Rattle.press_table.specs.declared.refusal.Refusal.{Refusal}
 use Rattle.press_table.specs.declared.state.State.{State}
 use Rattle.press_cursor.specs.declared.stack.CursorPosition.{CursorPosition}
 use Rattle.press_table.specs.declared.calls.SavedEnvironment.{SavedEnvironment}
@@ -16,6 +18,7 @@ use Rattle.press_table.specs.Calls as calls
 use Rattle.press_table.specs.Closing.{finish_effect}
 use Rattle.press_table.specs.Outcome.{Effect, Changes, MayAllocate, GivesReply, Stays, Closes, Starts, power_on_state}
 use Rattle.press_table.specs.Counts.{counted}
+use Rattle.press_table.specs.Refusals.{refusal_of}
 use Rattle.press_table.specs.Table.{is_recorded}
 
 -- What commands leave, or a step of them: the machine, and the outputs in order.
@@ -38,10 +41,15 @@ power_on = record { state = power_on_state; step = 0; depth = 0; last = lasts.No
 abbrev pub with_state : State → Machine → Machine
 with_state state machine = record machine { state = state }
 
--- what a step takes: a command that is recorded, or one that is carried out
+-- a command that is not recorded: it was refused, or not
+abbrev pub carried : Kind → Option Refusal → Last
+carried kind None = lasts.Ran kind
+carried kind (Some refusal) = lasts.Refused kind refusal
+
+-- what a step takes: a command that is recorded; or one that is not, and that is refused or not
 abbrev pub last_of : Token → State → Last
 last_of command state =
-    if is_recorded command state then lasts.Recorded (kind_of command) else lasts.Ran (kind_of command)
+    if is_recorded command state then lasts.Recorded (kind_of command) else carried (kind_of command) (refusal_of command state)
 
 -- A command is taken: that is one more step.
 abbrev pub taken : Token → Machine → Machine

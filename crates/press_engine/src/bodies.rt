@@ -40,7 +40,7 @@ impl Last {
         ensures { IsOfKind self result }
     {
         match self {
-            Last::Ran(kind) | Last::Recorded(kind) => kind,
+            Last::Ran(kind) | Last::Recorded(kind) | Last::Refused(kind, _) => kind,
             Last::Nothing => unreachable!(),
         }
     }

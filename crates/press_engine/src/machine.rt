@@ -2,10 +2,10 @@
 //! Reference Manual, Macros).
 
 ghost use Rattle.std.specs.Prelude.{◌≡◌};
-ghost use Rattle.press_engine.specs.Machine.{source_at};
+ghost use Rattle.press_engine.specs.Machine.{source_at, carried};
 
 use press_cmd::{Command, Kind, kind};
-use press_table::{BodyEnd, Effect, Source, State};
+use press_table::{BodyEnd, Changed, Effect, Refusal, Source, State};
 use std::alloc::{AllocError, Global};
 
 /// How many macros may run at a time outside an overlay.
@@ -19,10 +19,22 @@ pub const OVERLAY_LEVELS: u8 = 1;
 pub enum Last {
     /// No step was taken yet.
     Nothing,
-    /// A command of this kind was carried out.
+    /// A command of this kind was taken, and neither recorded nor refused.
     Ran(Kind),
     /// A command of this kind was recorded in the open macro definition.
     Recorded(Kind),
+    /// A command of this kind was refused, and had no effect.
+    Refused(Kind, Refusal),
+}
+
+/// What a step took that did not record a command of this kind.
+fn carried(kind: Kind, refusal: Option<Refusal>) -> Last
+    ensures { result ≡ carried kind refusal }
+{
+    match refusal {
+        Some(refusal) => Last::Refused(kind, refusal),
+        None => Last::Ran(kind),
+    }
 }
 
 /// The state with the count of steps.
@@ -97,13 +109,14 @@ impl Machine {
     {
         let kind = kind(command);
         let records = self.state.records(command);
-        let effect = self.state.row(alloc, source, command, kind, records)?;
-        self.step = self.step.saturating_add(1);
-        self.last = if records {
+        let last = if records {
             Last::Recorded(kind)
         } else {
-            Last::Ran(kind)
+            carried(kind, self.state.refusal(command, kind))
         };
+        let effect = self.state.row(alloc, source, command, kind, records)?;
+        self.step = self.step.saturating_add(1);
+        self.last = last;
         Ok(effect)
     }
 
@@ -116,11 +129,11 @@ impl Machine {
             → TakesMemory (effect_on source (token command.now) self.old.state) }
     {
         let kind = kind(command);
-        if !self.state.change(alloc, command, kind)? {
+        let Changed::Took(refusal) = self.state.change(alloc, command, kind)? else {
             return Ok(false);
-        }
+        };
         self.step = self.step.saturating_add(1);
-        self.last = Last::Ran(kind);
+        self.last = carried(kind, refusal);
         Ok(true)
     }
 

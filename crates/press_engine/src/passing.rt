@@ -12,6 +12,6 @@ impl Machine {
         ensures { self.new ≡ passed count kind self.old }
     {
         self.step = self.step.saturating_add(count as u64);
-        self.last = Last::Ran(kind);
+        self.last = Last::Refused(kind, self.state.skips_by());
     }
 }

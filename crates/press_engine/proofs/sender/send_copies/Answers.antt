@@ -1,6 +1,7 @@
-use Rattle.std.proofs.Common.{Ok}
+use Rattle.std.proofs.lemmas.Bool.Decides.{nat_tests}
+use Rattle.std.proofs.Common.{Ok, arith}
 use Rattle.press_units.proofs.ExitLemmas.{exit-is}
-use Rattle.press_engine.proofs.SendsLemmas.{WentOut-copy, WentOut-stopped_copy, WentOut-no_copy, TookLast-copy, is_later, has_fault_room-then, copies_out-some}
+use Rattle.press_engine.proofs.SendsLemmas.{WentOut-copy, WentOut-stopped_copy, WentOut-no_copy, TookLast-copy}
 use Rattle.press_engine.proofs.sender.send_copies.Goals as goal
 
 pub returns-in_err-send_copy-clause-sends : goal.returns-in_err-send_copy-clause-sends
@@ -11,14 +12,14 @@ returns-in_err-send_copy-clause-sends g c =
     c.in_err-send_copy.was (exit-is c.from_residual.ensures.1))
 
 pub returns-in_err-send_copy-clause-memory : goal.returns-in_err-send_copy-clause-memory
-returns-in_err-send_copy-clause-memory g c stops = copies_out-some c.args.finished.now.sheet c.loop-copy.copy c.args.finished.now.copies c.args.finished.now.since_job c.loop-copy-test.true
+returns-in_err-send_copy-clause-memory g c stops = grind (arith, c.loop-copy-test.true)
 
 pub send_copy-requires-clause-last : goal.send_copy-requires-clause-last
-send_copy-requires-clause-last g c = λ again. c.loop-copy.invariant.last (is_later c.loop-copy.copy again)
+send_copy-requires-clause-last g c = λ again. c.loop-copy.invariant.last (grind (arith, nat_tests))
 
 pub loop-copy-preserved : goal.loop-copy-preserved
 loop-copy-preserved g c = record {
-  has_fault_room = has_fault_room-then c.args.tag _ _ _ c.in_ok-send_copy.ensures c.loop-copy.invariant.has_fault_room;
+  has_fault_room = grind (arith, c.in_ok-send_copy.ensures, c.loop-copy.invariant.has_fault_room);
   rest =
       λ result after sends.
       c.loop-copy.invariant.rest result after
@@ -30,6 +31,4 @@ loop-copy-preserved g c = record {
 
 pub returns-clause-sends : goal.returns-clause-sends
 returns-clause-sends g c =
-    c.loop-copy.invariant.rest (Ok tt) _
-    (WentOut-no_copy c.args.finished.now.sheet c.args.tag c.loop-copy.copy c.args.finished.now.copies c.loop-copy.count _
-    c.loop-copy-test.false)
+    grind (arith, c.loop-copy.invariant.rest (Ok tt) _ (WentOut-no_copy c.args.finished.now.sheet c.args.tag c.loop-copy.copy c.args.finished.now.copies c.loop-copy.count _ c.loop-copy-test.false))

@@ -1,6 +1,6 @@
-use Rattle.std.proofs.Common.{◌∙◌, List, ◌∷◌, arith, refl, sym, ap, subst, reverse}
+use Rattle.std.proofs.Common.{◌∙◌, List, ◌∷◌, arith, refl, ap, subst, reverse}
 use Rattle.press_engine.specs.declared.activation.Activation.{Activation}
-use Rattle.press_engine.specs.Running.{RunsTo, ComesToTakeMemory}
+use Rattle.press_engine.specs.Running.{ComesToTakeMemory}
 use Rattle.press_engine.specs.Stack.{IsNested}
 use Rattle.press_engine.specs.Stepping.{Stepped}
 use Rattle.press_engine.proofs.CommandItems.{taking_in}
@@ -10,8 +10,7 @@ use Rattle.press_engine.proofs.StepLemmas.{step-last, taken-last, step-sound}
 use Rattle.press_engine.proofs.bodies.Bodies.run_inner.Goals as goal
 
 pub run_inner-requires : goal.run_inner-requires
-run_inner-requires c =
-    record { running = ready-some (reverse c.self.inside.activations.items) c.self.invariant.ready (λ none. c.requires.running (sym c.self.view_is ∙ none)) }
+run_inner-requires c = grind (arith, ready-some, reverse)
 
 pub kind-requires : goal.kind-requires
 kind-requires c =
@@ -29,12 +28,7 @@ invariant_of-self c =
     (reverse c.run_inner.new.activations.items) nested (omega arith) (ap (λ (stepped : Stepped). stepped.activations) runs.steps)
 
 pub returns-in-Ok-clause-runs : goal.returns-in-Ok-clause-runs
-returns-in-Ok-clause-runs c =
-    let P : List Activation → Type 0 =
-    λ these. RunsTo these c.args.machine.now (record { kind = c.kind.result; sent = c.in-Ok.sent }) c.run_inner.new.self (reverse c.run_inner.new.activations.items) in
-    subst P c.self.view_is
-    (runs-to (reverse c.self.inside.activations.items) c.args.machine.now c.kind.result c.in-Ok.sent c.run_inner.new.self (reverse c.run_inner.new.activations.items)
-    c.in-Ok.ensures.runs c.kind.ensures)
+returns-in-Ok-clause-runs c = grind (arith, reverse, runs-to)
 
 pub returns-in-Err-clause-memory : goal.returns-in-Err-clause-memory
 returns-in-Err-clause-memory c stops =

@@ -1,57 +1,16 @@
-use Rattle.std.proofs.Common.{◌≢◌, ◌∙◌, List, [], Ok, Err, sym, ap, subst}
+use Rattle.std.proofs.Common.{arith}
 use Rattle.press_units.proofs.ExitLemmas.{exit-is, exit-was}
-use Rattle.press_cmd.specs.View.{token}
-use Rattle.press_sink.specs.SinkLog.{logs, under}
-use Rattle.press_sink.specs.Sending.{Complete, WentOut}
-use Rattle.press_table.specs.declared.effect.Sent.{Sent}
-use Rattle.press_engine.specs.declared.engine.Engine.{Engine}
-use Rattle.press_engine.specs.Engine.{machine_of, bodies, ending_of, TakesNext}
-use Rattle.press_engine.specs.Machine.{macro_levels}
-use Rattle.press_engine.specs.Trace.{trace_at}
-use Rattle.press_table.specs.Outputs.{all_outputs}
 use Rattle.press_engine.proofs.ValueLemmas.{takes-ok, takes-stopped, takes-none, outer-some, needs-outer}
 use Rattle.press_engine.proofs.engine.Engine.step.Goals as goal
 
 pub returns-in_err-step-clause-takes : goal.returns-in_err-step-clause-takes
-returns-in_err-step-clause-takes g c =
-    let failed = c.in_err-step.ensures in
-    takes-none (machine_of c.args.self.now) (trace_at macro_levels (token c.args.command)) c.args.tag c.from_residual.result
-    c.in_err-step.field-0.0 (machine_of c.take_step.new.self) (bodies c.take_step.new.self) _
-    (outer-some (token c.args.command)) failed.refused (λ is. failed.failed.0 (ap Err is)) (exit-is c.from_residual.ensures.1) failed.steps.0 failed.steps.1
+returns-in_err-step-clause-takes g c = grind (arith, takes-none, outer-some, exit-is)
 
 pub returns-in_err-hand_over-clause-takes : goal.returns-in_err-hand_over-clause-takes
-returns-in_err-hand_over-clause-takes g c =
-    let P : List Sent → Type 0 =
-    λ sent.
-    WentOut c.args.tag (all_outputs sent) (ending_of c.hand_over.result)
-    (logs (g.S.SheetSink.told c.args.sheets.now) (g.R.ReplySink.told c.args.replies.now))
-    (logs (g.S.SheetSink.told c.hand_over.new.sheets) (g.R.ReplySink.told c.hand_over.new.replies)) in
-    takes-stopped (machine_of c.args.self.now) (trace_at macro_levels (token c.args.command)) c.in_ok-step.step
-    (machine_of c.take_step.new.self) (machine_of c.hand_over.new.self) (bodies c.take_step.new.self) (bodies c.hand_over.new.self)
-    c.args.tag c.hand_over.result c.from_residual-in_err-hand_over.result c.in_err-hand_over.field-0.0 _ _
-    c.in_ok-step.ensures.steps (subst P c.deref.ensures.value c.hand_over.ensures.sends) c.in_err-hand_over.was
-    (exit-is c.from_residual-in_err-hand_over.ensures.1) c.in_err-hand_over.ensures.left.0 c.in_err-hand_over.ensures.left.1
+returns-in_err-hand_over-clause-takes g c = grind (arith, takes-stopped, exit-is)
 
 pub returns-in_err-hand_over-clause-memory : goal.returns-in_err-hand_over-clause-memory
-returns-in_err-hand_over-clause-memory g c stops =
-    let P : List Sent → Type 0 = λ sent. all_outputs sent ≢ [] in
-    needs-outer (token c.args.command) c.in_ok-step.step (machine_of c.args.self.now) (machine_of c.take_step.new.self) (bodies c.take_step.new.self) c.in_ok-step.ensures.steps
-    (subst P c.deref.ensures.value (c.hand_over.ensures.memory (exit-was c.in_err-hand_over.was c.from_residual-in_err-hand_over.ensures.1 stops)))
+returns-in_err-hand_over-clause-memory g c stops = grind (arith, needs-outer, exit-was)
 
 pub returns-clause-takes : goal.returns-clause-takes
-returns-clause-takes g c =
-    let Q : Engine → Type 0 =
-    λ engine.
-    TakesNext (machine_of c.args.self.now) (trace_at macro_levels (token c.args.command)) (Ok c.in_ok-step.step.kind)
-    (machine_of engine) (bodies engine)
-    (under c.args.tag (logs (g.S.SheetSink.told c.args.sheets.now) (g.R.ReplySink.told c.args.replies.now))
-    (logs (g.S.SheetSink.told c.hand_over.new.sheets) (g.R.ReplySink.told c.hand_over.new.replies))) in
-    let P : List Sent → Type 0 =
-    λ sent.
-    WentOut c.args.tag (all_outputs sent) Complete
-    (logs (g.S.SheetSink.told c.args.sheets.now) (g.R.ReplySink.told c.args.replies.now))
-    (logs (g.S.SheetSink.told c.hand_over.new.sheets) (g.R.ReplySink.told c.hand_over.new.replies)) in
-    subst Q (sym (c.reuse.ensures ∙ c.in_ok-hand_over.ensures.left))
-    (takes-ok (machine_of c.args.self.now) (trace_at macro_levels (token c.args.command)) c.in_ok-step.step
-    (machine_of c.take_step.new.self) (bodies c.take_step.new.self) c.args.tag _ _ c.in_ok-step.ensures.steps
-    (subst P c.deref.ensures.value c.in_ok-hand_over.ensures.sends))
+returns-clause-takes g c = grind (arith, takes-ok)

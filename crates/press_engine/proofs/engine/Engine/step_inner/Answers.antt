@@ -1,4 +1,4 @@
-use Rattle.std.proofs.Common.{◌≢◌, ◌∙◌, List, [], Ok, Err, sym, ap, subst}
+use Rattle.std.proofs.Common.{◌∙◌, List, Ok, sym, subst, arith}
 use Rattle.press_units.proofs.ExitLemmas.{exit-is, exit-was}
 use Rattle.press_sink.specs.SinkLog.{logs, under}
 use Rattle.press_sink.specs.Sending.{Complete, WentOut}
@@ -11,12 +11,7 @@ use Rattle.press_engine.proofs.ValueLemmas.{takes-ok, takes-stopped, takes-none,
 use Rattle.press_engine.proofs.engine.Engine.step_inner.Goals as goal
 
 pub returns-in_err-step-clause-takes : goal.returns-in_err-step-clause-takes
-returns-in_err-step-clause-takes g c =
-    let failed = c.in_err-step.ensures in
-    takes-none (machine_of c.args.self.now) (continuation (bodies c.args.self.now)) c.args.tag c.from_residual.result
-    c.in_err-step.field-0.0 (machine_of c.take_inner.new.self) (bodies c.take_inner.new.self) _
-    (λ machine. inner-some (bodies c.args.self.now) machine c.take_inner.ensures.next) failed.refused (λ is. failed.failed.0 (ap Err is))
-    (exit-is c.from_residual.ensures.1) failed.steps.0 failed.steps.1
+returns-in_err-step-clause-takes g c = grind (arith, takes-none, inner-some, exit-is)
 
 pub returns-in_err-hand_over-clause-takes : goal.returns-in_err-hand_over-clause-takes
 returns-in_err-hand_over-clause-takes g c =
@@ -32,11 +27,7 @@ returns-in_err-hand_over-clause-takes g c =
     (exit-is c.from_residual-in_err-hand_over.ensures.1) c.in_err-hand_over.ensures.left.0 c.in_err-hand_over.ensures.left.1
 
 pub returns-in_err-hand_over-clause-memory : goal.returns-in_err-hand_over-clause-memory
-returns-in_err-hand_over-clause-memory g c stops =
-    let P : List Sent → Type 0 = λ sent. all_outputs sent ≢ [] in
-    needs-inner (bodies c.args.self.now) c.in_ok-step.step (machine_of c.args.self.now) (machine_of c.take_inner.new.self)
-    (bodies c.take_inner.new.self) c.take_inner.ensures.next c.in_ok-step.ensures.steps
-    (subst P c.deref.ensures.value (c.hand_over.ensures.memory (exit-was c.in_err-hand_over.was c.from_residual-in_err-hand_over.ensures.1 stops)))
+returns-in_err-hand_over-clause-memory g c stops = grind (arith, needs-inner, exit-was)
 
 pub returns-clause-takes : goal.returns-clause-takes
 returns-clause-takes g c =

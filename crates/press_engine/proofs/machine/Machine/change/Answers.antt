@@ -3,9 +3,9 @@ use Rattle.press_cmd.specs.Kinds.{kind_of}
 use Rattle.press_cmd.specs.View.{token}
 use Rattle.press_table.specs.Changing.{OnlyChanges}
 use Rattle.press_table.specs.Counts.{counted}
+use Rattle.press_table.specs.Refusals.{refusal_of}
 use Rattle.press_engine.specs.Begun.{begun_only}
-use Rattle.press_engine.specs.Machine.{silent}
-use Rattle.press_engine.specs.declared.machine.Last.TheVariants as lasts
+use Rattle.press_engine.specs.Machine.{silent, carried}
 use Rattle.press_engine.proofs.ChangingLaws.{only_changes}
 use Rattle.press_engine.proofs.machine.Machine.change.Goals as goal
 
@@ -14,9 +14,11 @@ returns-clause-changes c =
     let command = token c.args.command.now in
     let old = c.args.self.now in
     let state = c.change.new.self in
-    let is : OnlyChanges command old.state state = rw c.if-not-branch.false at c.in_ok-change.ensures.changes in
+    let is : OnlyChanges command old.state state = rw c.in-Took.is at c.in_ok-refusal.ensures.changes in
+    let refused : c.in-Took.refusal ≡ refusal_of command old.state = rw c.in-Took.is at c.in_ok-refusal.ensures.refusal in
     let step : counted old.step 1 ≡ c.saturating_add-self.result = search rules in
-    let kind : kind_of command ≡ c.kind-kind.result = sym c.kind-kind.ensures in
+    let last : carried (kind_of command) (refusal_of command old.state) ≡ c.carried-self.result =
+    (λ i. carried (sym c.kind-kind.ensures i) (sym refused i)) ∙ sym c.carried-self.ensures in
     λ in_overlay levels.
     only_changes command old state is in_overlay levels
-    ∙ (λ i. begun_only (silent (record { state = state; step = step i; depth = old.depth; last = lasts.Ran (kind i) })))
+    ∙ (λ i. begun_only (silent (record { state = state; step = step i; depth = old.depth; last = last i })))

@@ -1,4 +1,4 @@
-use Rattle.std.proofs.Common.{◌≡◌, ◌∙◌, true, false, inl, inr, sym, ap, reverse, ◌∷◌, []}
+use Rattle.std.proofs.Common.{◌≡◌, ◌∙◌, true, inl, inr, sym, ap, reverse, ◌∷◌, [], arith}
 use Rattle.std.proofs.lemmas.List.{reverse-append}
 use Rattle.press_engine.specs.Stepping.{unwind}
 use Rattle.press_engine.specs.Stepping.{is_top_used_up, run_of}
@@ -20,19 +20,7 @@ loop-alloc-preserved c =
     }
 
 pub returns-clause-ends : goal.returns-clause-ends
-returns-clause-ends c =
-    let none : is_top_used_up (reverse c.loop-alloc.activations.items) ≡ false =
-    ap (λ items. is_top_used_up (reverse items)) (sym c.deref.ensures.value)
-    ∙ sym c.is_top_used_up.ensures
-    ∙ c.loop-alloc-test.false in
-    unwind-none (reverse c.loop-alloc.activations.items) (run_of c.loop-alloc.self c.loop-alloc.out.items) none ∙ c.loop-alloc.invariant.ends
+returns-clause-ends c = grind (arith, reverse, unwind-none)
 
 pub returns-in_err-end_activation-clause-overlay : goal.returns-in_err-end_activation-clause-overlay
-returns-in_err-end_activation-clause-overlay c stops =
-    let activations = reverse c.loop-alloc.activations.items in
-    let rest = reverse c.pop.new.self.items in
-    let activation = c.in-Some.activation in
-    let used : is_top_used_up activations ≡ true = ap (λ items. is_top_used_up (reverse items)) (sym c.deref.ensures.value) ∙ sym c.is_top_used_up.ensures ∙ c.loop-alloc-test.true in
-    let all : activations ≡ activation ∷ rest = ap reverse (c.in-Some.ensures.items) ∙ reverse-append c.pop.new.self.items (activation ∷ []) in
-    c.loop-alloc.invariant.overlay (ends-overlay activations rest activation all (first-used activations rest activation used all)
-    (inl (c.end_activation.ensures.overlay (is_err-of c.end_activation.result _ c.in_err-end_activation.was))))
+returns-in_err-end_activation-clause-overlay c stops = grind (arith, reverse, reverse-append, ends-overlay, first-used, inl, is_err-of)

@@ -49,10 +49,7 @@ loop-effect-preserved c =
     let P : Option Effect → Type 0 = λ effect. TakesFirst c.loop-effect.activation command c.loop-effect.self effect c.take_first.new.self in
     record {
       given = so_far.given ++ command ∷ [];
-      was =
-          so_far.was
-          ∙ ap (λ (body : List Token). so_far.given ++ body) (is ∙ ap (λ (more : List Token). command ∷ more) behind)
-          ∙ sym (append_assoc so_far.given (command ∷ []) new.body);
+      was = grind (arith, append_assoc);
       stays = left ∙ (λ i. record (so_far.stays i) { body = behind i });
       each = each-then so_far.given command c.args.self.now c.loop-effect.self c.take_first.new.self so_far.each (subst P none takes);
       some = λ nothing. absurd (false≢true (sym c.if-is_used_up.false ∙ c.is_used_up.ensures.1 nothing));
