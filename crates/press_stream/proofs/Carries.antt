@@ -1,27 +1,25 @@
 -- Steps of an engine, and those of the job round it.
-use Rattle.std.proofs.Common.{◌≡◌, ◌≢◌, ◌∙◌, ℕ, List, [], ◌∷◌, true, false, Option, Some, None, Result, Ok, Err, IsSome, refl, sym, ap, subst, inl, inr}
+use Rattle.std.proofs.Common.{◌≡◌, ◌≢◌, ◌∙◌, ℕ, List, [], ◌∷◌, true, false, Option, Some, None, Result, Ok, Err, refl, sym, ap, subst, inl, inr, arith, rules}
 use Rattle.press_cmd.specs.Token.{Token, Uel}
 use Rattle.press_cmd.specs.declared.variant.Kind.{Kind}
-use Rattle.press_scan.specs.ScannerState.{ScannerState, buffer_size}
+use Rattle.press_scan.specs.ScannerState.{ScannerState}
 use Rattle.press_sink.specs.SinkLog.{SinkLog, under}
 use Rattle.press_sink.specs.Sending.{Output, Ending, Complete, AtSheet, AtReply, ForMemory, Refused, GoesOut, WentOut, HandsOut}
 use Rattle.press_sink.proofs.SendingLemmas.{Took-none, WentOut-took}
 use Rattle.press_table.specs.declared.effect.Sent.{Sent}
 use Rattle.press_engine.specs.declared.step_output.StepOutput.{StepOutput}
-use Rattle.press_engine.specs.declared.fault.EngineError.{EngineError}
-use Rattle.press_engine.specs.declared.fault.EngineError.TheVariants as engine_errors
 use Rattle.press_engine.specs.declared.activation.Activation.{Activation}
 use Rattle.press_engine.specs.declared.machine.Machine.{Machine}
-use Rattle.press_engine.specs.Engine.{bodies, ending_of, Steps, NeedsMemory, InnerNeedsMemory}
+use Rattle.press_engine.specs.Engine.{bodies, Steps, NeedsMemory, InnerNeedsMemory}
 use Rattle.press_engine.specs.Machine.{StepResult, macro_levels}
 use Rattle.press_table.specs.Outputs.{all_outputs}
-use Rattle.press_engine.specs.Stack.{continuation, HasNext}
+use Rattle.press_engine.specs.Stack.{continuation}
 use Rattle.press_engine.specs.Trace.{trace_at}
 use Rattle.press_engine.proofs.ValueLemmas.{some-items, outer-some, inner-some, wants-outer, wants-inner}
 use Rattle.press_stream.specs.declared.fault.JobError.{JobError}
 use Rattle.press_stream.specs.declared.fault.JobError.TheVariants as errors
 use Rattle.press_stream.specs.declared.step.Step.TheVariants as answers
-use Rattle.press_stream.specs.Answers.{job_error, ending_by, IsDue, TakesOf, Takes, StopsAtDue, TakesStep, WantsMemory}
+use Rattle.press_stream.specs.Answers.{ending_by, IsDue, TakesOf, Takes, StopsAtDue, TakesStep, WantsMemory}
 use Rattle.press_stream.specs.Meaning.{left}
 use Rattle.press_stream.specs.State.{JobState}
 use Rattle.press_stream.specs.Steps.{TakesGiven, TakesNothing, Does, DoesStep, CarriesOne, CarriesNext}
@@ -64,12 +62,6 @@ DoesStep-next held next old new bodies still step idle (command, passes, s) =
     does_step (command ∷ []) (running_job held old bodies) (running_job next new still) (trace_at macro_levels command) step
     (inr (inl (command, refl, idle, refl, refl, passes))) (λ machine. command_is_left bodies command machine idle) s
 
-pub Stops-next : (held next : ScannerState) (old new : Option Machine) (bodies still : List Activation) (error : JobError) → bodies ≡ []
-    → CarriesNext held old (Err error) next new still → TakesStep (running_job held old bodies) (Err error) (running_job next new still)
-Stops-next held next old new bodies still error idle (command, passes, (is, needs, gone)) =
-    let P : JobError → Type 0 = λ one. TakesStep (running_job held old bodies) (Err one) (running_job next new still) in
-    subst P (sym is) (inr (command, (idle, refl, inl (next, passes)), needs), gone)
-
 -- a step that took the exit, where nothing was held
 pub DoesStep-exit : (held next : ScannerState) (old between new : Option Machine) (bodies none still : List Activation) (step : StepOutput)
     → bodies ≡ [] → next.ended ≡ true → CarriesNext held old (Ok None) next between none → CarriesOne Uel between (Ok step) new still
@@ -80,34 +72,7 @@ DoesStep-exit held next old between new bodies none still step idle ended nothin
     does_step (Uel ∷ []) (running_job held old bodies) (record { held = next; machine = new; bodies = still; exited = true }) (trace_at macro_levels Uel) step
     (inr (inr (refl, idle, refl, refl, nothing.1, over, nothing.0))) (λ machine. command_is_left bodies Uel machine idle) (subst P nothing.2 s)
 
-pub Stops-exit : (held next : ScannerState) (old between new : Option Machine) (bodies none still : List Activation) (error : JobError)
-    → bodies ≡ [] → next.ended ≡ true → CarriesNext held old (Ok None) next between none → CarriesOne Uel between (Err error) new still
-    → TakesStep (running_job held old bodies) (Err error) (running_job next new still)
-Stops-exit held next old between new bodies none still error idle ended nothing (is, needs, gone) =
-    let over : held.ended ≡ true = ap (λ (now : ScannerState). now.ended) (sym nothing.1) ∙ ended in
-    let P : JobError → Type 0 = λ one. TakesStep (running_job held old bodies) (Err one) (running_job next new still) in
-    let Q : Option Machine → Type 0 = λ machine. NeedsMemory machine Uel in
-    subst P (sym is) (inr (Uel, (idle, refl, inr (over, nothing.0, refl)), subst Q nothing.2 needs), gone)
-
--- what a step that took a command leaves
-pub Fits-next : (held next : ScannerState) (old new : Option Machine) (still : List Activation) (step : StepOutput)
-    → held.room ≡ buffer_size → CarriesNext held old (Ok (Some step)) next new still → IsSome new × (next.room ≡ buffer_size)
-Fits-next held next old new still step room (command, passes, s) =
-    (subst (λ (machine : Option Machine). IsSome machine) (sym s.is) refl, passes.room ∙ room)
-
-pub Fits-nothing : (held next : ScannerState) (old new : Option Machine) (still : List Activation) → IsSome old → held.room ≡ buffer_size
-    → CarriesNext held old (Ok None) next new still → IsSome new × (next.room ≡ buffer_size)
-Fits-nothing held next old new still running room nothing =
-    (subst (λ (machine : Option Machine). IsSome machine) (sym nothing.2) running, ap (λ (now : ScannerState). now.room) nothing.1 ∙ room)
-
 -- ---- what goes out in a step
-
--- an engine's error and the job's of it end alike
-pub ending-same : (error : EngineError) → ending_of {X = Unit {0}} (Err error) ≡ ending_by (Some (job_error error))
-ending-same engine_errors.SinkFault = refl
-ending-same engine_errors.ReplyFault = refl
-ending-same engine_errors.NoMemory = refl
-ending-same engine_errors.Failed = refl
 
 -- a step all of whose outputs went out
 pub Takes-sent : (old between new : JobState) (step : StepOutput) (sent : List Sent) (tag : ℕ) (before after : SinkLog)
@@ -125,16 +90,7 @@ Takes-sent old between new step sent tag before after (machine, did) same is han
 -- the outputs of a step's item went out so far
 stops-at : (old new : JobState) (item : StepResult) (kind : Kind) (ending : Ending) (went : List Output)
     → Does old item kind new → GoesOut ending went item.outputs → StopsAtDue old ending went
-stops-at old new item kind ending went did goes = record {
-  given = did.given;
-  takes = taken-of old new did.given did.takes;
-  from = did.from;
-  starts = did.starts;
-  item = item;
-  others = continuation new.bodies item.machine;
-  are = did.are;
-  goes = goes;
-}
+stops-at old new item kind ending went did goes = search (rules, taken-of)
 
 faults-by : (old between new : JobState) (item : StepResult) (kind : Kind) (error : JobError) (went : List Output)
     → Does old item kind between → new.machine ≡ None → GoesOut (ending_by (Some error)) went item.outputs
@@ -159,23 +115,12 @@ Faults-sent old between new step sent tag error before after (machine, did) is g
       took = WentOut-took tag (all_outputs sent) (ending_by (Some error)) before after sends;
     }
 
--- where something goes out in a step, what comes next may take memory
-needs-command : (old new : JobState) (item : StepResult) (kind : Kind) → (did : Does old item kind new) → item.outputs ≢ []
-    → (command : Token) → did.given ≡ command ∷ [] → old.bodies ≡ [] → NeedsMemory old.machine command
-needs-command old new item kind did some command is idle =
-    let P : Option Machine → Type 0 = λ machine. NeedsMemory machine command in
-    let owes = sym (command_is_left old.bodies command did.from idle) ∙ ap (λ (given : List Token). left given old.bodies did.from) (sym is) ∙ did.are in
-    subst P (sym did.starts) (wants-outer command did.from item (continuation new.bodies item.machine) owes some)
-
 wants-in : (old new : JobState) (item : StepResult) (kind : Kind) → (did : Does old item kind new) → item.outputs ≢ [] → TakesGiven old did.given new → WantsMemory old
-wants-in old new item kind did some (inl (next, none, _, _)) =
-    let P : Option Machine → Type 0 = λ machine. InnerNeedsMemory machine old.bodies in
-    let owes = sym (left-none old.bodies did.from) ∙ ap (λ (given : List Token). left given old.bodies did.from) (sym none) ∙ did.are in
-    inl (subst P (sym did.starts) (wants-inner old.bodies did.from item (continuation new.bodies item.machine) next owes some))
+wants-in old new item kind did some (inl (next, none, _, _)) = grind (arith, wants-inner, left-none)
 wants-in old new item kind did some (inr (inl (command, is, idle, going, _, passes))) =
-    inr (command, (idle, going, inl (new.held, passes)), needs-command old new item kind did some command is idle)
+    inr (command, (idle, going, inl (new.held, passes)), grind (arith, command_is_left, wants-outer))
 wants-in old new item kind did some (inr (inr (is, idle, going, _, _, ended, done))) =
-    inr (Uel, (idle, going, inr (ended, done, refl)), needs-command old new item kind did some Uel is idle)
+    inr (Uel, (idle, going, inr (ended, done, refl)), grind (arith, command_is_left, wants-outer))
 
 pub wants-sent : (old new : JobState) (step : StepOutput) (sent : List Sent) → DoesStep old step new → sent ≡ step.sent.items → all_outputs sent ≢ [] → WantsMemory old
 wants-sent old new step sent (machine, did) is some =
@@ -193,17 +138,12 @@ stopped-before given job machine takes is some =
 -- nothing of what comes next went out
 stops-inside : (job : JobState) (machine : Option Machine) → job.machine ≡ machine → InnerNeedsMemory machine job.bodies → StopsAtDue job ForMemory []
 stops-inside job None is needs = absurd needs
-stops-inside job (Some machine) is (activation, command, rest, outer, all, _) =
-    let next : HasNext job.bodies = (activation, command, rest, outer, all) in
-    let some : left [] job.bodies machine ≢ [] = λ none. inner-some job.bodies machine next (sym (left-none job.bodies machine) ∙ none) in
-    stopped-before [] job machine (inl (next_runs job.bodies next, refl)) is some
+stops-inside job (Some machine) is (activation, command, rest, outer, all, _) = grind (arith, inner-some, left-none job.bodies machine, stopped-before, next_runs)
 
 stops-at_command : (job : JobState) (command : Token) (machine : Option Machine) → IsDue job command
     → job.machine ≡ machine → NeedsMemory machine command → StopsAtDue job ForMemory []
 stops-at_command job command None due is needs = absurd needs
-stops-at_command job command (Some machine) due is needs =
-    let some : left (command ∷ []) job.bodies machine ≢ [] = λ none. outer-some command machine (sym (command_is_left job.bodies command machine due.0) ∙ none) in
-    stopped-before (command ∷ []) job machine (inr (command, due, refl)) is some
+stops-at_command job command (Some machine) due is needs = grind (arith, outer-some, command_is_left job.bodies command machine due.0, stopped-before)
 
 stops-for_memory : (job : JobState) → WantsMemory job → StopsAtDue job ForMemory []
 stops-for_memory job (inl needs) = stops-inside job job.machine refl needs

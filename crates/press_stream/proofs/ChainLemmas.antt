@@ -1,52 +1,43 @@
 -- The calls of a job, one after another.
-use Rattle.std.proofs.Common.{◌≡◌, ◌∙◌, ◌<◌, ◌+◌, ℕ, List, [], ◌∷◌, ◌++◌, length, take, drop, get_or, Ok, Err, Result, Option}
-use Rattle.std.proofs.Common.{Some, None, IsSome, IfErr, OnErr, OnOk, false, refl, sym, ap, subst}
+use Rattle.std.proofs.Common.{◌≡◌, ◌∙◌, ◌<◌, ◌+◌, ℕ, List, [], ◌∷◌, ◌++◌, length, take, drop, get_or, Ok, Err, Result, Option, arith}
+use Rattle.std.proofs.Common.{Some, None, IsSome, OnOk, false, refl, sym, ap, subst}
 use Rattle.std.specs.List.{flat_map}
 use Rattle.std.proofs.KnownBytes.{Consumes-nil}
 use Rattle.std.proofs.lemmas.Grind.{flat_map-append}
 use Rattle.std.proofs.lemmas.Bool.{true≢false}
 use Rattle.std.proofs.lemmas.List.{append-nil, take_more, take-append-drop}
-use Rattle.press_sink.specs.SinkLog.{SinkLog, logs, under, unlisted_log, written_log}
+use Rattle.press_sink.specs.SinkLog.{SinkLog, under}
 use Rattle.press_sink.specs.Sending.{Output, Complete, AtSheet, AtReply, ForMemory, HandsOut}
 use Rattle.press_sink.proofs.SendingLemmas.{HandsOut-as, HandsOut-then, Took-none}
 use Rattle.press_engine.specs.declared.machine.Machine.{Machine}
 use Rattle.press_stream.specs.declared.fault.JobError.{JobError}
 use Rattle.press_stream.specs.declared.fault.JobError.TheVariants as errors
-use Rattle.press_stream.specs.State.{IsOver, JobState, opened}
-use Rattle.press_stream.specs.Answers.{Pushes, Takes, CarriesOrStops, Feeds, Finishes, Faults, RunsThrough, RunsReader, ending_by, fault_of}
-use Rattle.press_stream.specs.declared.step.Step.{Step}
-use Rattle.press_stream.specs.declared.step.Step.TheVariants as steps
+use Rattle.press_stream.specs.State.{JobState, opened}
+use Rattle.press_stream.specs.Answers.{Pushes, CarriesOrStops, Feeds, Finishes, Faults, RunsReader, ending_by, fault_of}
 use Rattle.press_stream.specs.Chain.{PrintsAll}
 use Rattle.press_stream.specs.Meaning.{CarriesOn}
 use Rattle.press_stream.specs.Printed.{Prints, PrintedTo, Printed, TellsMeaning}
 use Rattle.press_stream.proofs.Faults.{Faults-then, Faults-now, CarriesOrStops-feeds, HandsOut-goes, HandsOut-nothing}
-use Rattle.press_stream.proofs.Going.{CarriesOn-after, CarriesOn-none, CarriesOn-push, Stops-memory, taken-ended}
+use Rattle.press_stream.proofs.Going.{CarriesOn-after, CarriesOn-none, CarriesOn-push, Stops-memory}
 use Rattle.press_stream.proofs.MeaningLaws.{reader-means}
-use Rattle.press_stream.proofs.Refusals.{CarriesOrStops-lost}
 use Rattle.press_stream.specs.Calls.{StopsHanded, StopsRead}
 
 -- the bytes of the first pieces, and of one more
 pub pieces-next : {A : Type 0} (f : A → List ℕ) (pieces : List A) (i : ℕ) (other : A) → i < length pieces → flat_map f (take (i + 1) pieces) ≡ flat_map f (take i pieces) ++ f (get_or pieces i other)
 pieces-next f pieces i other inside =
-    ap (flat_map f) (take_more pieces i other inside)
-    ∙ flat_map-append f (take i pieces) (get_or pieces i other ∷ [])
-    ∙ ap (λ (rest : List ℕ). flat_map f (take i pieces) ++ rest) (append-nil (f (get_or pieces i other)))
+    cc (take_more pieces i other inside, flat_map-append f (take i pieces) (get_or pieces i other ∷ []), append-nil (f (get_or pieces i other)))
 
 -- the bytes of the first pieces, of one more, and of the others
 pub pieces-rest : {A : Type 0} (f : A → List ℕ) (pieces : List A) (i : ℕ) (other : A) → i < length pieces
     → (flat_map f (take i pieces) ++ f (get_or pieces i other)) ++ flat_map f (drop (i + 1) pieces) ≡ flat_map f pieces
 pieces-rest f pieces i other inside =
-    ap (λ (prefix : List ℕ). prefix ++ flat_map f (drop (i + 1) pieces)) (sym (pieces-next f pieces i other inside))
-    ∙ sym (flat_map-append f (take (i + 1) pieces) (drop (i + 1) pieces))
-    ∙ ap (flat_map f) (take-append-drop (i + 1) pieces)
+    cc (pieces-next f pieces i other inside, flat_map-append f (take (i + 1) pieces) (drop (i + 1) pieces), take-append-drop (i + 1) pieces)
 
 -- ---- the calls
 
 -- a job that was opened
 pub HandsOut-opened : (job : JobState) (tag : ℕ) (told : SinkLog) → job ≡ opened → HandsOut Complete (CarriesOn opened [] job) (under tag told told)
-HandsOut-opened job tag told is =
-    subst (λ (one : JobState). HandsOut Complete (CarriesOn opened [] one) (under tag told told)) (sym is)
-    (HandsOut-nothing opened opened [] tag told (CarriesOn-none opened refl))
+HandsOut-opened job tag told is = rw is (HandsOut-nothing opened opened [] tag told (CarriesOn-none opened refl))
 
 pub opened-going : (job : JobState) → job ≡ opened → job.held.ended ≡ false
 opened-going job is = ap (λ (one : JobState). one.held.ended) is
@@ -57,23 +48,18 @@ pub HandsOut-more : (bytes more all : List ℕ) (tag : ℕ) (result : Result (Un
     → HandsOut (ending_by (fault_of result)) (CarriesOrStops job more result new) (under tag middle after)
     → HandsOut (ending_by (fault_of result)) (CarriesOrStops opened all result new) (under tag before after)
 HandsOut-more bytes more all tag result job new before middle after is going first second =
-    subst (λ (handed : List ℕ). HandsOut (ending_by (fault_of result)) (CarriesOrStops opened handed result new) (under tag before after)) (sym is)
-    (HandsOut-goes opened job new bytes more result tag before middle after going first second)
+    rw is (HandsOut-goes opened job new bytes more result tag before middle after going first second)
 
 -- a piece that was pushed
 pub pushed : (old new : JobState) (piece : List ℕ) (tag : ℕ) (result : Result (Unit {0}) JobError) (told : SinkLog) → IsSome old.machine
     → old.held.ended ≡ false → Pushes old piece result new → HandsOut (ending_by (fault_of result)) (CarriesOrStops old piece result new) (under tag told told)
-pushed old new piece tag (Ok done) told running going pushes =
-    subst (λ (one : JobState). HandsOut Complete (CarriesOn old piece one) (under tag told told)) (sym pushes.2)
-    (HandsOut-nothing old _ piece tag told (CarriesOn-push old piece running going))
+pushed old new piece tag (Ok done) told running going pushes = rw pushes.2 (HandsOut-nothing old _ piece tag told (CarriesOn-push old piece running going))
 pushed old new piece tag (Err errors.NoMemory) told running going pushes = record {
   went = [];
   is = λ more none_after. (pushes.2, Stops-memory old (piece ++ more) running none_after);
   took = Took-none tag ForMemory told refl refl;
 }
-pushed old new piece tag (Err errors.Failed) told running going pushes = absurd (no_machine old.machine running pushes.0) where
-  no_machine : (machine : Option Machine) → IsSome machine → machine ≡ None → ⊥
-  no_machine machine some none = cc
+pushed old new piece tag (Err errors.Failed) told running going pushes = cc
 pushed old new piece tag (Err errors.AfterEnd) told running going pushes = absurd (true≢false (sym pushes.0.1 ∙ going))
 pushed old new piece tag (Err errors.SinkFault) told running going pushes = absurd pushes
 pushed old new piece tag (Err errors.ReplyFault) told running going pushes = absurd pushes
@@ -83,31 +69,7 @@ pushed old new piece tag (Err errors.ReadFault) told running going pushes = absu
 pub fed : (old new : JobState) (piece : List ℕ) (tag : ℕ) (result : Result (Unit {0}) JobError) (before after : SinkLog) → old.held.ended ≡ false
     → HandsOut (ending_by (fault_of result)) (Feeds old piece result new) (under tag before after)
     → HandsOut (ending_by (fault_of result)) (CarriesOrStops old piece result new) (under tag before after)
-fed old new piece tag result before after going =
-    HandsOut-as (ending_by (fault_of result)) (Feeds old piece result new) (CarriesOrStops old piece result new) (under tag before after)
-    (λ went feeds. CarriesOrStops-feeds old new piece result went going feeds)
-
--- a job that takes more bytes takes more behind a piece that was pushed, or fed, and behind a step
-pub pushed-going : (old new : JobState) (piece : List ℕ) (result : Result (Unit {0}) JobError) → Pushes old piece result new → OnOk result (new.held.ended ≡ false)
-pushed-going old new piece (Ok done) pushes = ap (λ (job : JobState). job.held.ended) pushes.2 ∙ pushes.1
-pushed-going old new piece (Err error) pushes = tt
-
-pub pushed-failed : (old new : JobState) (piece : List ℕ) (result : Result (Unit {0}) JobError) → IsSome old.machine → old.held.ended ≡ false
-    → Pushes old piece result new → OnErr result (new.machine ≡ None)
-pushed-failed old new piece result running going pushes =
-    let told : SinkLog = logs (unlisted_log 0) (written_log None 0) in
-    let goes = pushed old new piece 0 result told running going pushes in
-    (CarriesOrStops-lost old new piece result goes.went running going goes.is).lost
-
-pub fed-going : (old new : JobState) (piece : List ℕ) (result : Result (Unit {0}) JobError) (went : List Output) → Feeds old piece result new went
-    → OnOk result (new.held.ended ≡ false)
-fed-going old new piece (Ok done) went feeds = feeds.1.going
-fed-going old new piece (Err error) went feeds = tt
-
-pub stepped-going : (old new : JobState) (step : Step) (went : List Output) → old.held.ended ≡ false → Takes old (Ok step) new went → new.held.ended ≡ false
-stepped-going old new (steps.Ran kind) went going ran = taken-ended old new ran.1.given ran.1.takes ∙ going
-stepped-going old new steps.Hungry went going quiet = ap (λ (job : JobState). job.held.ended) quiet.1 ∙ going
-stepped-going old new steps.Ended went going quiet = ap (λ (job : JobState). job.held.ended) quiet.1 ∙ going
+fed old new piece tag result before after going = grind (arith, HandsOut-as, CarriesOrStops-feeds)
 
 -- ---- what is printed
 
@@ -117,9 +79,7 @@ PrintedTo-fault : PrintsAll → (bytes : List ℕ) (error : JobError) (new : Job
 PrintedTo-fault prints bytes errors.SinkFault new went faults = prints.stopped [] bytes AtSheet opened [] went (λ e. cc) (CarriesOn-none opened refl) faults.1 None
 PrintedTo-fault prints bytes errors.ReplyFault new went faults = prints.stopped [] bytes AtReply opened [] went (λ e. cc) (CarriesOn-none opened refl) faults.1 None
 PrintedTo-fault prints bytes errors.NoMemory new went faults = prints.stopped [] bytes ForMemory opened [] went (λ e. cc) (CarriesOn-none opened refl) faults.1 None
-PrintedTo-fault prints bytes errors.Failed new went faults = absurd (has_failed faults.0) where
-  has_failed : opened.machine ≡ None → ⊥
-  has_failed none = cc
+PrintedTo-fault prints bytes errors.Failed new went faults = cc
 PrintedTo-fault prints bytes errors.ReadFault new went faults = absurd faults.1.goes
 PrintedTo-fault prints bytes errors.AfterEnd new went faults = absurd faults.1.goes
 
@@ -127,10 +87,7 @@ PrintedTo-fault prints bytes errors.AfterEnd new went faults = absurd faults.1.g
 pub PrintedTo-before : PrintsAll → (bytes more all : List ℕ) (tag : ℕ) (error : JobError) (new : JobState) (before after : SinkLog) → bytes ++ more ≡ all
     → HandsOut (ending_by (Some error)) (CarriesOrStops opened bytes (Err error) new) (under tag before after)
     → HandsOut (ending_by (Some error)) (PrintedTo (Some error) all None) (under tag before after)
-PrintedTo-before prints bytes more all tag error new before after is =
-    HandsOut-as (ending_by (Some error)) (CarriesOrStops opened bytes (Err error) new) (PrintedTo (Some error) all None) (under tag before after)
-    (λ went faults. subst (λ (handed : List ℕ). PrintedTo (Some error) handed None went) is
-    (PrintedTo-fault prints (bytes ++ more) error new went (faults more (λ ended. absurd (true≢false (sym ended))))))
+PrintedTo-before prints bytes more all tag error new before after is = grind (arith, PrintedTo-fault, true≢false, HandsOut-as)
 
 -- there was no memory for a job
 pub PrintedTo-none : PrintsAll → (all : List ℕ) (tag : ℕ) (told : SinkLog) → HandsOut ForMemory (PrintedTo (Some errors.NoMemory) all None) (under tag told told)
@@ -191,23 +148,9 @@ PrintedTo-any errors.AfterEnd bytes one other went printed = printed
 pub Printed-stopped : (bytes : List ℕ) (had : Option (List ℕ)) (tag : ℕ) (error : JobError) (new : Option Machine) (before after : SinkLog)
     → HandsOut (ending_by (Some error)) (PrintedTo (Some error) bytes None) (under tag before after)
     → HandsOut (ending_by (Some error)) (Printed bytes had had (Some error) new) (under tag before after)
-Printed-stopped bytes had tag error new before after =
-    HandsOut-as (ending_by (Some error)) (PrintedTo (Some error) bytes None) (Printed bytes had had (Some error) new) (under tag before after)
-    (λ went printed. record {
-      bytes = [];
-      read = record { lost = Consumes-nil had; at_end = λ none. absurd (cc) };
-      printed = subst (λ (all : List ℕ). PrintedTo (Some error) all new went) (sym (append-nil bytes)) (PrintedTo-any error bytes None new went printed);
-    })
-
--- a job that was finished is over, and one that ran a reader
-pub read-over : (job new : JobState) (bytes : List ℕ) (result : Result (Unit {0}) JobError) (went : List Output) → RunsThrough job bytes result new went → OnOk result (IsOver new)
-read-over job new bytes (Ok done) went runs = runs.1
-read-over job new bytes (Err error) went runs = tt
+Printed-stopped bytes had tag error new before after = grind (arith, PrintedTo-any, Consumes-nil, append-nil, HandsOut-as)
 
 -- ---- which errors there are
-
-no_machine_left : (machine : Option Machine) → IsSome machine → machine ≡ None → ⊥
-no_machine_left machine some none = cc
 
 -- of a job that runs, where all its bytes are handed in
 pub Faults-handed : (old new : JobState) (bytes : List ℕ) (error : JobError) (went : List Output) → IsSome old.machine → Faults old bytes error new went
@@ -215,7 +158,7 @@ pub Faults-handed : (old new : JobState) (bytes : List ℕ) (error : JobError) (
 Faults-handed old new bytes errors.SinkFault went running faults = tt
 Faults-handed old new bytes errors.ReplyFault went running faults = tt
 Faults-handed old new bytes errors.NoMemory went running faults = tt
-Faults-handed old new bytes errors.Failed went running faults = absurd (no_machine_left old.machine running faults.0)
+Faults-handed old new bytes errors.Failed went running faults = absurd (cc faults.0)
 Faults-handed old new bytes errors.ReadFault went running faults = absurd faults.1.goes
 Faults-handed old new bytes errors.AfterEnd went running faults = absurd faults.1.goes
 
@@ -232,13 +175,3 @@ handed-read errors.NoMemory stops = stops
 handed-read errors.Failed stops = stops
 handed-read errors.ReadFault stops = tt
 handed-read errors.AfterEnd stops = stops
-
-pub run-read : (old new : JobState) (bytes : List ℕ) (result : Result (Unit {0}) JobError) (went : List Output) → IsSome old.machine → old.held.ended ≡ false
-    → RunsThrough old bytes result new went → IfErr result StopsRead
-run-read old new bytes (Ok done) went running going runs = tt
-run-read old new bytes (Err errors.ReadFault) went running going runs = tt
-run-read old new bytes (Err errors.AfterEnd) went running going runs = absurd (true≢false (sym runs.0.1 ∙ going))
-run-read old new bytes (Err errors.SinkFault) went running going runs = tt
-run-read old new bytes (Err errors.ReplyFault) went running going runs = tt
-run-read old new bytes (Err errors.NoMemory) went running going runs = tt
-run-read old new bytes (Err errors.Failed) went running going runs = absurd (no_machine_left old.machine running runs.0)

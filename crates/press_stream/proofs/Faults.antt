@@ -1,5 +1,5 @@
 -- Jobs that stopped at a fault, chained.
-use Rattle.std.proofs.Common.{◌≡◌, ◌∙◌, inl, inr, ℕ, List, [], ◌∷◌, ◌++◌, false, Option, IsSome, OnOk, Some, None, Result, Ok, Err, refl, sym, ap, subst, append_assoc}
+use Rattle.std.proofs.Common.{◌≡◌, ◌∙◌, inl, inr, ℕ, List, [], ◌∷◌, ◌++◌, false, Option, IsSome, OnOk, Some, None, Result, Ok, Err, refl, sym, ap, subst, append_assoc, arith}
 use Rattle.std.proofs.lemmas.Bool.{true≢false}
 use Rattle.std.proofs.lemmas.List.{append-nil}
 use Rattle.press_cmd.specs.declared.variant.Kind.{Kind}
@@ -10,7 +10,7 @@ use Rattle.press_stream.specs.declared.fault.JobError.{JobError}
 use Rattle.press_stream.specs.declared.fault.JobError.TheVariants as errors
 use Rattle.press_stream.specs.declared.step.Step.{Step}
 use Rattle.press_stream.specs.declared.step.Step.TheVariants as answers
-use Rattle.press_stream.specs.State.{JobState, NeedsInput, IsOver, with_piece, input_ended}
+use Rattle.press_stream.specs.State.{JobState, NeedsInput, with_piece, input_ended}
 use Rattle.press_stream.specs.Meaning.{CarriesOn}
 use Rattle.press_stream.specs.Answers.{IsGoing, IsIdle, Takes, CarriesOrStops, Feeds, Finishes, Faults, FaultsBefore, ending_by, fault_of}
 use Rattle.press_stream.proofs.Going.{CarriesOn-none, CarriesOn-one, CarriesOn-then, CarriesOn-after, CarriesOn-push, CarriesOn-ends, Stops-then, Stops-due}
@@ -41,15 +41,12 @@ FaultsBefore-step old new errors.AfterEnd went faults = absurd faults.1.goes
 -- the fault where nothing comes behind, in a job that takes more bytes
 pub Faults-now : (old new : JobState) (bytes : List ℕ) (error : JobError) (went : List Output) → old.held.ended ≡ false
     → FaultsBefore old bytes error new went → Faults old bytes error new went
-Faults-now old new bytes error went going faults =
-    subst (λ (all : List ℕ). Faults old all error new went) (append-nil bytes) (faults [] (λ ended. absurd (true≢false (sym ended ∙ going))))
+Faults-now old new bytes error went going faults = grind (arith, append-nil bytes, faults [] (λ ended. absurd (true≢false (sym ended ∙ going))))
 
 -- the fault before bytes that came, too
 pub FaultsBefore-more : (old new : JobState) (bytes rest : List ℕ) (error : JobError) (went : List Output) → FaultsBefore old bytes error new went
     → FaultsBefore old (bytes ++ rest) error new went
-FaultsBefore-more old new bytes rest error went faults = λ more none_after.
-    let is = append_assoc bytes rest more in
-    subst (λ (all : List ℕ). Faults old all error new went) (sym is) (faults (rest ++ more) (λ ended. sym is ∙ none_after ended))
+FaultsBefore-more old new bytes rest error went faults = grind (arith, append_assoc)
 
 -- no call before the end of input answers that a read failed
 pub no_read_fault : (old new : JobState) (bytes : List ℕ) (error : JobError) (went : List Output) → old.held.ended ≡ false → error ≡ errors.ReadFault
@@ -69,21 +66,14 @@ pub CarriesOrStops-then : (old between new : JobState) (bytes piece : List ℕ) 
     → between.held.ended ≡ old.held.ended → CarriesOn old bytes between went → CarriesOrStops between piece result new others
     → CarriesOrStops old (bytes ++ piece) result new (went ++ others)
 CarriesOrStops-then old between new bytes piece (Ok done) went others still goes then = CarriesOn-then old between new bytes piece went others goes then
-CarriesOrStops-then old between new bytes piece (Err error) went others still goes faults = λ more none_after.
-    let is = append_assoc bytes piece more in
-    subst (λ (all : List ℕ). Faults old all error new (went ++ others)) (sym is)
-    (Faults-then old between new bytes (piece ++ more) error went others goes
-    (faults more (λ ended. none_behind bytes (piece ++ more) (sym is ∙ none_after (sym still ∙ ended)))))
+CarriesOrStops-then old between new bytes piece (Err error) went others still goes faults = grind (arith, Faults-then, none_behind, append_assoc)
 
 -- the same of what the sinks took
 pub HandsOut-goes : (old between new : JobState) (bytes piece : List ℕ) (result : Result (Unit {0}) JobError) (tag : ℕ) (before middle after : SinkLog)
     → between.held.ended ≡ old.held.ended → HandsOut Complete (CarriesOn old bytes between) (under tag before middle)
     → HandsOut (ending_by (fault_of result)) (CarriesOrStops between piece result new) (under tag middle after)
     → HandsOut (ending_by (fault_of result)) (CarriesOrStops old (bytes ++ piece) result new) (under tag before after)
-HandsOut-goes old between new bytes piece result tag before middle after still goes then =
-    HandsOut-then tag (ending_by (fault_of result)) (CarriesOn old bytes between) (CarriesOrStops between piece result new)
-    (CarriesOrStops old (bytes ++ piece) result new) before middle after
-    (λ went others. CarriesOrStops-then old between new bytes piece result went others still) goes then
+HandsOut-goes old between new bytes piece result tag before middle after still goes then = grind (arith, CarriesOrStops-then, HandsOut-then)
 
 -- nothing goes out
 pub HandsOut-nothing : (old new : JobState) (bytes : List ℕ) (tag : ℕ) (told : SinkLog) → CarriesOn old bytes new [] → HandsOut Complete (CarriesOn old bytes new) (under tag told told)
@@ -104,18 +94,14 @@ HandsOut-step old new tag step before after running =
 pub HandsOut-stopped : (old new : JobState) (tag : ℕ) (error : JobError) (before after : SinkLog)
     → HandsOut (ending_by (Some error)) (Takes old (Err error) new) (under tag before after)
     → HandsOut (ending_by (Some error)) (CarriesOrStops old [] (Err error) new) (under tag before after)
-HandsOut-stopped old new tag error before after =
-    HandsOut-as (ending_by (Some error)) (Takes old (Err error) new) (CarriesOrStops old [] (Err error) new) (under tag before after)
-    (λ went faults. FaultsBefore-step old new error went faults)
+HandsOut-stopped old new tag error before after = grind (arith, FaultsBefore-step, HandsOut-as)
 
 -- no step was taken, and nothing changed
 pub idle_of : (old new : JobState) (step : Step) (went : List Output) → ((kind : Kind) → step ≡ answers.Ran kind → ⊥) → Takes old (Ok step) new went
     → IsIdle new × (new.held.ended ≡ old.held.ended)
 idle_of old new (answers.Ran kind) went not takes = absurd (not kind refl)
-idle_of old new answers.Hungry went not (hungry, same, none) =
-    (inl (subst (λ (job : JobState). NeedsInput job) (sym same) hungry), ap (λ (job : JobState). job.held.ended) same)
-idle_of old new answers.Ended went not (over, same, none) =
-    (inr (subst (λ (job : JobState). IsOver job) (sym same) over), ap (λ (job : JobState). job.held.ended) same)
+idle_of old new answers.Hungry went not (hungry, same, none) = grind arith
+idle_of old new answers.Ended went not (over, same, none) = grind arith
 
 -- ---- pieces
 
@@ -133,17 +119,13 @@ Feeds-goes old new piece (Err errors.AfterEnd) went going hungry faults = absurd
 pub HandsOut-feeds : (old new : JobState) (piece : List ℕ) (result : Result (Unit {0}) JobError) (tag : ℕ) (before after : SinkLog) → old.held.ended ≡ false
     → OnOk result (NeedsInput new) → HandsOut (ending_by (fault_of result)) (CarriesOrStops old piece result new) (under tag before after)
     → HandsOut (ending_by (fault_of result)) (Feeds old piece result new) (under tag before after)
-HandsOut-feeds old new piece result tag before after going hungry =
-    HandsOut-as (ending_by (fault_of result)) (CarriesOrStops old piece result new) (Feeds old piece result new) (under tag before after)
-    (λ went goes. Feeds-goes old new piece result went going hungry goes)
+HandsOut-feeds old new piece result tag before after going hungry = grind (arith, Feeds-goes, HandsOut-as)
 
 -- a fault before the rest of a piece came
 pub HandsOut-before : (old new : JobState) (bytes rest : List ℕ) (tag : ℕ) (error : JobError) (before after : SinkLog)
     → HandsOut (ending_by (Some error)) (CarriesOrStops old bytes (Err error) new) (under tag before after)
     → HandsOut (ending_by (Some error)) (CarriesOrStops old (bytes ++ rest) (Err error) new) (under tag before after)
-HandsOut-before old new bytes rest tag error before after =
-    HandsOut-as (ending_by (Some error)) (CarriesOrStops old bytes (Err error) new) (CarriesOrStops old (bytes ++ rest) (Err error) new) (under tag before after)
-    (λ went faults. FaultsBefore-more old new bytes rest error went faults)
+HandsOut-before old new bytes rest tag error before after = grind (arith, FaultsBefore-more, HandsOut-as)
 
 pub CarriesOrStops-feeds : (old new : JobState) (piece : List ℕ) (result : Result (Unit {0}) JobError) (went : List Output) → old.held.ended ≡ false
     → Feeds old piece result new went → CarriesOrStops old piece result new went
@@ -169,24 +151,13 @@ Feeds-refused job piece tag errors.ReplyFault told none = absurd none
 Feeds-refused job piece tag errors.ReadFault told none = absurd none
 Feeds-refused job piece tag errors.NoMemory told none = absurd none
 
--- a job that takes more bytes and drained is hungry
-pub hungry_of : (old new : JobState) → old.held.ended ≡ false → IsIdle new → new.held.ended ≡ old.held.ended → NeedsInput new
-hungry_of old new going idle still =
-    elim idle [
-      | inl hungry ↦ hungry
-      | inr over ↦ absurd (true≢false (sym over.ended ∙ still ∙ going))
-    ]
-
 -- A part of a piece was taken, and carried out.
 pub HandsOut-part : (old between new : JobState) (part : List ℕ) (result : Result (Unit {0}) JobError) (tag : ℕ) (before after : SinkLog) → NeedsInput old
     → between ≡ with_piece part old → HandsOut (ending_by (fault_of result)) (CarriesOrStops between [] result new) (under tag before after)
     → HandsOut (ending_by (fault_of result)) (CarriesOrStops old part result new) (under tag before after)
 HandsOut-part old between new part result tag before after hungry is hands =
     let P : JobState → Type 0 = λ job. HandsOut (ending_by (fault_of result)) (CarriesOrStops job [] result new) (under tag before after) in
-    let Q : List ℕ → Type 0 = λ all. HandsOut (ending_by (fault_of result)) (CarriesOrStops old all result new) (under tag before after) in
-    subst Q (append-nil part)
-    (HandsOut-goes old (with_piece part old) new part [] result tag before before after refl
-    (HandsOut-nothing old (with_piece part old) part tag before (CarriesOn-push old part hungry.running hungry.going)) (subst P is hands))
+    rw (append-nil part) at (HandsOut-goes old (with_piece part old) new part [] result tag before before after refl (HandsOut-nothing old (with_piece part old) part tag before (CarriesOn-push old part hungry.running hungry.going)) (subst P is hands))
 
 -- ---- the end of input
 

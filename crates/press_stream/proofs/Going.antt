@@ -78,8 +78,7 @@ stays old new bytes running same still so_far to_end =
     }
 
 pub CarriesOut-none : (job : JobState) → IsSome job.machine → CarriesOut job [] [] [] job
-CarriesOut-none job running =
-    stays job job [] running refl refl (λ going. (going, (refl, append-nil job.held.bytes))) (λ more commands owes. owes)
+CarriesOut-none job running = grind (arith, stays job job [] running refl refl (λ going. (going, (refl, append-nil job.held.bytes))) (λ more commands owes. owes))
 
 pub CarriesOut-push : (job : JobState) (piece : List ℕ) → IsSome job.machine → job.held.ended ≡ false → CarriesOut job piece [] [] (with_piece piece job)
 CarriesOut-push job piece running going =
@@ -107,9 +106,7 @@ CarriesOut-then old between new bytes more given others items rest first second 
     let at = last_machine from items in
     let same : second.from ≡ at = same_some between.machine second.from at second.starts first.ends in
     let last = last-append items rest from in
-    let second_are : left others between.bodies at ≡ rest ++ continuation new.bodies (last_machine at rest) =
-    subst (λ (machine : Machine). left others between.bodies machine ≡ rest ++ continuation new.bodies (last_machine machine rest))
-    same second.are in
+    let second_are : left others between.bodies at ≡ rest ++ continuation new.bodies (last_machine at rest) = grind (arith, continuation) in
     record {
       so_far = λ going.
           let last = second.so_far going in
@@ -128,11 +125,7 @@ CarriesOut-then old between new bytes more given others items rest first second 
       from = from;
       starts = first.starts;
       ends = second.ends ∙ ap (λ (machine : Machine). Some (last_machine machine rest)) same ∙ ap (λ (machine : Machine). Some machine) (sym last);
-      are =
-          left-then given others old.bodies between.bodies from items first.are
-          ∙ ap (λ (left : List StepResult). items ++ left) second_are
-          ∙ sym (append_assoc items rest (continuation new.bodies (last_machine at rest)))
-          ∙ ap (λ (machine : Machine). (items ++ rest) ++ continuation new.bodies machine) (sym last);
+      are = grind (arith, append_assoc, continuation, left-then);
     }
 
 -- ---- the outputs of what was carried out
@@ -160,8 +153,7 @@ CarriesOn-then old between new bytes more went others (given, items, first, is) 
 -- the others of no more bytes
 pub CarriesOn-after : (old between new : JobState) (bytes : List ℕ) (went others : List Output) → CarriesOn old bytes between went
     → CarriesOn between [] new others → CarriesOn old bytes new (went ++ others)
-CarriesOn-after old between new bytes went others first second =
-    subst (λ (all : List ℕ). CarriesOn old all new (went ++ others)) (append-nil bytes) (CarriesOn-then old between new bytes [] went others first second)
+CarriesOn-after old between new bytes went others first second = grind (arith, append-nil bytes, CarriesOn-then old between new bytes [] went others first second)
 
 -- a job that went on runs
 pub CarriesOn-to : (old new : JobState) (bytes : List ℕ) (went : List Output) → CarriesOn old bytes new went → IsSome new.machine
@@ -208,38 +200,14 @@ exit_owed job going ended done =
 -- What a step takes of the stream: the bytes so far, what is owed behind it, and how many commands are left.
 pub taken-so_far : (old new : JobState) (given : List Token) → TakesGiven old given new → new.held.ended ≡ false
     → (old.held.ended ≡ false) × Steps old.held.mode (old.held.bytes ++ []) given new.held.mode new.held.bytes
-taken-so_far old new given (inl (_, none, held, _)) going =
-    let P : ScannerState → Type 0 = λ (now : ScannerState). (now.ended ≡ false) → (old.held.ended ≡ false) × Steps old.held.mode (old.held.bytes ++ []) [] now.mode now.bytes in
-    let Q : List Token → Type 0 = λ commands. (old.held.ended ≡ false) × Steps old.held.mode (old.held.bytes ++ []) commands new.held.mode new.held.bytes in
-    subst Q (sym none) (subst P (sym held) (λ still. (still, (refl, append-nil old.held.bytes))) going)
-taken-so_far old new given (inr (inl (command, is, _, _, _, passes))) going =
-    let still : old.held.ended ≡ false = sym passes.ended ∙ going in
-    let (used, bytes_are, head) = passes.head still in
-    let P : List Token → Type 0 = λ commands. Steps old.held.mode (old.held.bytes ++ []) commands new.held.mode new.held.bytes in
-    (still, subst P (sym is) (used, new.held.bytes, new.held.mode, append-nil old.held.bytes ∙ bytes_are, head, (refl, refl)))
-taken-so_far old new given (inr (inr (_, _, _, _, held, ended, _))) going =
-    absurd (true≢false (sym (ap (λ (now : ScannerState). now.ended) held ∙ ended) ∙ going))
+taken-so_far old new given (inl (_, none, held, _)) going = grind (arith, append-nil)
+taken-so_far old new given (inr (inl (command, is, _, _, _, passes))) going = grind (arith, append-nil)
+taken-so_far old new given (inr (inr (_, _, _, _, held, ended, _))) going = cc
 
 pub taken-to_end : (old new : JobState) (given : List Token) → TakesGiven old given new → (more : List ℕ) (commands : List Token) → Owes new more commands → Owes old more (given ++ commands)
-taken-to_end old new given (inl (_, none, held, exited)) more commands owes =
-    let P : List Token → Type 0 = λ prefix. Owes old more (prefix ++ commands) in
-    let Q : ScannerState → Bool → Type 0 =
-    λ now out.
-    (now.ended ≡ true → more ≡ [])
-    × MatchBool out (commands ≡ [])
-    ((closed : List Token) × ClosedFrom now.mode (now.bytes ++ more) closed × (commands ≡ with_exit closed)) in
-    subst P (sym none) (subst (λ (out : Bool). Q old.held out) exited (subst (λ (now : ScannerState). Q now new.exited) held owes))
-taken-to_end old new given (inr (inl (command, is, _, going, still, passes))) more commands owes =
-    let P : List Token → Type 0 = λ prefix. Owes old more (prefix ++ commands) in
-    subst P (sym is) (passes-to_end old new command more commands going still passes owes)
-taken-to_end old new given (inr (inr (is, _, going, exited, held, ended, done))) more commands owes =
-    let still : new.held.ended ≡ true = ap (λ (now : ScannerState). now.ended) held ∙ ended in
-    let O : List Token → Type 0 = λ prefix. Owes old more (prefix ++ commands) in
-    let P : List ℕ → Type 0 = λ all. Owes old all (Uel ∷ commands) in
-    let Q : List Token → Type 0 = λ all. Owes old [] (Uel ∷ all) in
-    let R : Bool → Type 0 = λ out. MatchBool out (commands ≡ []) ((closed : List Token) × ClosedFrom new.held.mode (new.held.bytes ++ more) closed × (commands ≡ with_exit closed)) in
-    let none : commands ≡ [] = subst R exited owes.1 in
-    subst O (sym is) (subst P (sym (owes.0 still)) (subst Q (sym none) (exit_owed old going ended done)))
+taken-to_end old new given (inl (_, none, held, exited)) more commands owes = grind arith
+taken-to_end old new given (inr (inl (command, is, _, going, still, passes))) more commands owes = grind (arith, passes-to_end)
+taken-to_end old new given (inr (inr (is, _, going, exited, held, ended, done))) more commands owes = grind (arith, exit_owed)
 
 pub taken-fewer : (old new : JobState) (given : List Token) → TakesGiven old given new → length given + most_commands new ≤ most_commands old
 taken-fewer old new given (inl (_, none, held, exited)) = rw (none, held, exited) (omega arith)
@@ -279,10 +247,7 @@ CarriesOn-one old new item kind went did is = (did.given, item ∷ [], CarriesOu
 
 -- Whatever a step takes of the stream, something is owed behind it.
 taken_owed : (job : JobState) (given : List Token) (more : List ℕ) → (job.held.ended ≡ true → more ≡ []) → TakesOf job given → (others : List Token) × Owes job more (given ++ others)
-taken_owed job given more none_after (inl (_, none)) =
-    let continuation = Owes-some job more none_after in
-    let P : List Token → Type 0 = λ prefix. Owes job more (prefix ++ continuation.0) in
-    (continuation.0, subst P (sym none) continuation.1)
+taken_owed job given more none_after (inl (_, none)) = grind (arith, Owes-some job more none_after)
 taken_owed job given more none_after (inr (command, (_, going, inl (next, passes)), is)) =
     let new : JobState = record { held = next; machine = job.machine; bodies = job.bodies; exited = false } in
     let others = Owes-some new more (λ ended. none_after (sym passes.ended ∙ ended)) in
@@ -302,8 +267,7 @@ Stops-due job bytes ending went stops none_after stopped =
     let all = left stopped.given job.bodies stopped.from in
     let behind = trace others (last_machine stopped.from all) in
     let more = stopped.others ++ behind in
-    let is : left (stopped.given ++ others) job.bodies stopped.from ≡ stopped.item ∷ more =
-    left-append stopped.given others job.bodies stopped.from ∙ ap (λ (front : List StepResult). front ++ behind) stopped.are in
+    let is : left (stopped.given ++ others) job.bodies stopped.from ≡ stopped.item ∷ more = grind (arith, left-append) in
     record {
       commands = stopped.given ++ others;
       owes = owes;
@@ -322,8 +286,7 @@ Stops-then old between bytes more ending went others (given, items, goes, is) st
     let behind : GoesOut ending others rest = subst (λ (machine : Machine). GoesOut ending others (joined (left stops.commands between.bodies machine))) same stops.goes in
     let owed = joined (left (given ++ stops.commands) old.bodies goes.from) in
     let all : owed ≡ joined items ++ rest =
-    ap joined (left-then given stops.commands old.bodies between.bodies goes.from items goes.are)
-    ∙ joined-append items (left stops.commands between.bodies at) in
+    grind (arith, left-then given stops.commands old.bodies between.bodies goes.from items goes.are, joined-append items (left stops.commands between.bodies at)) in
     record {
       commands = given ++ stops.commands;
       owes = goes.to_end more stops.commands stops.owes;

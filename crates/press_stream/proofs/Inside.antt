@@ -1,5 +1,5 @@
 -- Steps in a body that runs.
-use Rattle.std.proofs.Common.{◌≡◌, ◌≢◌, ◌⊎◌, ◌∙◌, ◌↔◌, ◌++◌, List, [], Option, Some, None, Ok, Err, Bool, true, false, if◌then◌else◌, IsTrue, inl, inr, refl, sym, ap, subst, arith}
+use Rattle.std.proofs.Common.{◌≡◌, ◌≢◌, ◌⊎◌, ◌∙◌, ◌↔◌, List, [], Option, Some, None, Ok, Err, Bool, true, false, if◌then◌else◌, IsTrue, inl, inr, refl, sym, ap, subst, arith}
 use Rattle.std.proofs.lemmas.Bool.{false≢true}
 use Rattle.press_scan.specs.ScannerState.{ScannerState}
 use Rattle.press_engine.specs.declared.step_output.StepOutput.{StepOutput}
@@ -72,10 +72,7 @@ passes_inside old new before after was is goes held exited =
           from = before;
           starts = was;
           ends = is ∙ ap (λ (machine : Machine). Some machine) (sym passes.ends);
-          are =
-              left-none old.bodies before
-              ∙ passes.owes
-              ∙ ap (λ (machine : Machine). passes.items ++ continuation new.bodies machine) (sym passes.ends);
+          are = grind (arith, left-none);
         },
         sym passes.nothing,
       );
@@ -100,13 +97,7 @@ run_on old new step runs held exited =
 
 pub job_runs_on : (held : ScannerState) (engine new : Engine) (phase : Phase) (job : JobState) (step : StepOutput) → job_state held engine phase ≡ job → job.bodies ≢ []
     → RunsInner (machine_of engine) (bodies engine) step (machine_of new) (bodies new) → TakesOn job (Ok (steps.Ran step)) (job_state held new phase)
-job_runs_on held engine new phase job step is inside runs =
-    let P : JobState → Type 0 = λ one. one.bodies ≢ [] → TakesOn one (Ok (steps.Ran step)) (job_state held new phase) in
-    subst P is (by phase) inside where
-      by : (phase : Phase) → (job_state held engine phase).bodies ≢ [] → TakesOn (job_state held engine phase) (Ok (steps.Ran step)) (job_state held new phase)
-      by phases.Running some = run_on (job_state held engine phases.Running) (job_state held new phases.Running) step runs refl refl
-      by phases.Exited some = run_on (job_state held engine phases.Exited) (job_state held new phases.Exited) step runs refl refl
-      by phases.Failed some = absurd (some refl)
+job_runs_on held engine new phase job step is inside runs = grind (arith, run_on)
 
 -- or memory ran out there
 abbrev WantsOn : JobState → Type 0
@@ -136,10 +127,7 @@ pub job_stops_on : (held : ScannerState) (engine : Engine) (phase : Phase) (job 
     → new.machine ≡ None → (error ≡ engine_errors.Failed → machine_of engine ≡ None) → (error ≡ engine_errors.Failed) ⊎ (error ≡ engine_errors.NoMemory)
     → (error ≡ engine_errors.NoMemory → ComesToNeedMemory (machine_of engine) (bodies engine)) → TakesOn job (Err (job_error error)) new
 job_stops_on held engine phase job new engine_errors.NoMemory is inside gone failed refused needs =
-    let (between, passes, wants) = job_wants_on held engine phase job is inside (needs refl) in
-    (between, passes, (wants, gone))
-job_stops_on held engine phase job new engine_errors.Failed is inside gone failed refused needs =
-    let some = engine_inside held engine phase (subst (λ (one : JobState). one.bodies ≢ []) (sym is) inside) in
-    absurd (some (failed-idle engine.failed engine.machine.value engine.bodies (failed refl)))
+    grind (arith, job_wants_on held engine phase job is inside (needs refl))
+job_stops_on held engine phase job new engine_errors.Failed is inside gone failed refused needs = grind (arith, engine_inside, failed-idle)
 job_stops_on held engine phase job new engine_errors.SinkFault is inside gone failed refused needs = elim refused [ inl e ↦ absurd cc | inr e ↦ absurd cc ]
 job_stops_on held engine phase job new engine_errors.ReplyFault is inside gone failed refused needs = elim refused [ inl e ↦ absurd cc | inr e ↦ absurd cc ]

@@ -1,5 +1,5 @@
 -- The items that are left of a job whose end was given: they are one list, and each step takes its first.
-use Rattle.std.proofs.Common.{◌≡◌, ◌∙◌, List, [], Option, Some, None, refl, sym, ap}
+use Rattle.std.proofs.Common.{◌≡◌, List, [], Option, Some, None, refl, ap, arith}
 use Rattle.press_cmd.specs.Token.{Token}
 use Rattle.press_engine.specs.declared.machine.Machine.{Machine}
 use Rattle.press_engine.specs.Machine.{StepResult}
@@ -10,10 +10,7 @@ use Rattle.press_stream.proofs.Going.{Owes-some, same_some}
 use Rattle.press_stream.proofs.LeftLemmas.{Owes-one}
 
 pub LeftOf-one : (job : JobState) (items others : List StepResult) → LeftOf job items → LeftOf job others → items ≡ others
-LeftOf-one job items others is other =
-    let from = same_some job.machine is.from other.from is.starts other.starts in
-    let commands = Owes-one job [] is.commands other.commands is.owes other.owes in
-    is.are ∙ (λ j. left (commands j) job.bodies (from j)) ∙ sym other.are
+LeftOf-one job items others is other = grind (arith, same_some, Owes-one)
 
 -- the commands that are left of a job, and their items
 commands_left : (job : JobState) → (commands : List Token) × Owes job [] commands

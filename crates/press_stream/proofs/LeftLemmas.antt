@@ -1,5 +1,5 @@
 -- What is left of a job, from step to step.
-use Rattle.std.proofs.Common.{◌≡◌, ◌≢◌, ◌∙◌, ◌↔◌, inl, inr, ℕ, List, [], ◌∷◌, ◌++◌, Bool, true, false, IsTrue, MatchBool, refl, sym, ap, subst, append_assoc}
+use Rattle.std.proofs.Common.{◌≡◌, ◌≢◌, ◌∙◌, ◌↔◌, inl, inr, ℕ, List, [], ◌∷◌, ◌++◌, Bool, true, false, IsTrue, MatchBool, refl, sym, ap, subst, append_assoc, arith}
 use Rattle.std.proofs.lemmas.Bool.{false≢true}
 use Rattle.press_cmd.specs.Token.{Token}
 use Rattle.press_cmd.specs.Split.{ClosedFrom, Closed}
@@ -53,26 +53,16 @@ left_before old new item kind bytes others is did =
       starts = did.starts;
       commands = did.given ++ is.commands;
       owes = taken-to_end old new did.given did.takes bytes is.commands is.owes;
-      are =
-          ap (λ (more : List StepResult). item ∷ more) (is.are ∙ ap (left is.commands new.bodies) same)
-          ∙ sym (left-then did.given is.commands old.bodies new.bodies did.from (item ∷ []) did.are);
+      are = grind (arith, is.are, same, left-then did.given is.commands old.bodies new.bodies did.from (item ∷ []) did.are);
     }
 
 -- ---- nothing is left exactly of a job that is over
 
 no_commands : (job : JobState) (bytes : List ℕ) (commands : List Token) → job.exited ≡ true → Owes job bytes commands → commands ≡ []
-no_commands job bytes commands exited owes =
-    subst (λ (out : Bool). MatchBool out (commands ≡ []) ((closed : List Token) × ClosedFrom job.held.mode (job.held.bytes ++ bytes) closed × (commands ≡ with_exit closed))) exited owes.1
-
-nothing_left : (job : JobState) (bytes : List ℕ) (items : List StepResult) → job.bodies ≡ [] → job.exited ≡ true → LeftWith job bytes items → items ≡ []
-nothing_left job bytes items idle exited is =
-    is.are
-    ∙ ap (λ (commands : List Token). left commands job.bodies is.from) (no_commands job bytes is.commands exited is.owes)
-    ∙ left-none job.bodies is.from
-    ∙ ap (λ (bodies : List Activation). continuation bodies is.from) idle
+no_commands job bytes commands exited owes = grind (arith, exited, owes.1)
 
 left_over : (job : JobState) (bytes : List ℕ) (items : List StepResult) → IsOver job → LeftWith job bytes items → items ≡ []
-left_over job bytes items over is = nothing_left job bytes items over.idle over.exited is
+left_over job bytes items over is = grind (arith, no_commands, left-none, over.idle, over.exited)
 
 -- ---- what comes in
 
@@ -135,32 +125,17 @@ exit_owes : (closed : List Token) (bodies : List Activation) (machine : Machine)
 exit_owes [] bodies machine none = command_owes _ [] bodies machine none
 exit_owes (command ∷ closed) bodies machine none = command_owes command (with_exit closed) bodies machine none
 
--- Before the exit something is left.
-pub left_before_exit : (job : JobState) (bytes : List ℕ) (items : List StepResult) → job.exited ≡ false → LeftWith job bytes items → items ≡ [] → ⊥
-left_before_exit job bytes items going is none =
-    let some =
-    subst (λ (out : Bool).
-    MatchBool out (is.commands ≡ [])
-    ((closed : List Token) × ClosedFrom job.held.mode (job.held.bytes ++ bytes) closed × (is.commands ≡ with_exit closed)))
-    going is.owes.1 in
-    exit_owes some.0 job.bodies is.from (ap (λ (commands : List Token). left commands job.bodies is.from) (sym some.2) ∙ sym is.are ∙ none)
-
--- While a body runs something is left.
-pub left_inside : (job : JobState) (bytes : List ℕ) (items : List StepResult) → HasNext job.bodies → LeftWith job bytes items → items ≡ [] → ⊥
-left_inside job bytes items next is none =
-    ready_owes job.bodies is.from next (some-then (continuation job.bodies is.from) _ (sym is.are ∙ none))
-
 -- whether something is left, by what tells whether a body runs, and before the exit
 pub tells_left : (job : JobState) (idle : Bool) (bytes : List ℕ) (items : List StepResult) → (IsTrue idle ↔ (job.bodies ≡ [])) → IsReady job.bodies → job.exited ≡ true → LeftWith job bytes items
     → IsTrue idle ↔ (items ≡ [])
 tells_left job idle bytes items tells ready exited is =
-    (λ still. nothing_left job bytes items (tells.0 still) exited is, λ none. by_ready none ready) where
+    (λ still. grind (arith, no_commands, left-none, tells.0 still), λ none. by_ready none ready) where
       by_ready : items ≡ [] → IsReady job.bodies → IsTrue idle
       by_ready none (inl empty) = tells.1 empty
-      by_ready none (inr next) = absurd (left_inside job bytes items next is none)
+      by_ready none (inr next) = absurd (grind (arith, ready_owes job.bodies is.from next (some-then (continuation job.bodies is.from) _ (sym is.are ∙ none))))
 
 pub tells_before : (job : JobState) (bytes : List ℕ) (items : List StepResult) → job.exited ≡ false → LeftWith job bytes items → IsTrue false ↔ (items ≡ [])
-tells_before job bytes items going is = (λ e. absurd (false≢true e), λ none. absurd (left_before_exit job bytes items going is none))
+tells_before job bytes items going is = (λ e. absurd (false≢true e), λ none. absurd (grind (arith, exit_owes)))
 
 pub not_exited : (phase : Phase) → phase ≢ phases.Exited → is_exited phase ≡ false
 not_exited phases.Running other = refl

@@ -4,24 +4,22 @@ use Rattle.std.specs.Prelude.{option_map}
 use Rattle.std.specs.List.{AllByRecursion}
 use Rattle.std.proofs.lemmas.List.{length-append}
 use Rattle.press_cmd.specs.Token.{Token, Escape, Grouped, Ungrouped, Control, Text, Broken, Uel, PjlLine, ForeignByte}
+use Rattle.press_cmd.specs.Kinds.{kind_of}
 use Rattle.press_cmd.specs.Split.{Steps}
 use Rattle.press_scan.specs.declared.passing.Passed.{Passed}
 use Rattle.press_scan.specs.Passing.{PassesEach, IsOneByte, PassesOver}
 use Rattle.press_scan.specs.ScannerState.{ScannerState}
-use Rattle.press_engine.specs.declared.activation.Activation.{Activation}
 use Rattle.press_engine.specs.declared.machine.Machine.{Machine}
 use Rattle.press_table.specs.declared.state.State.{State}
 use Rattle.press_engine.specs.Machine.{StepResult}
 use Rattle.press_table.specs.Passing.{HasNoEffect, SkipsBytes, SkipsControls}
 use Rattle.press_engine.specs.Passing.{passed}
-use Rattle.press_engine.specs.Stack.{continuation}
 use Rattle.press_engine.specs.Fold.{run_all}
-use Rattle.press_engine.specs.Trace.{last_machine, trace}
+use Rattle.press_engine.specs.Trace.{trace}
 use Rattle.press_engine.proofs.FoldLaws.{trace_tells_the_run}
-use Rattle.press_engine.proofs.PassingLaws.{passing_is_counted}
-use Rattle.press_stream.proofs.Uneffective.{each-passed}
+use Rattle.press_engine.proofs.PassingLaws.{passed-more, passing_is_counted}
 use Rattle.press_stream.specs.Answers.{PassesOn}
-use Rattle.press_stream.specs.Meaning.{left, Owes}
+use Rattle.press_stream.specs.Meaning.{Owes}
 use Rattle.press_stream.specs.State.{JobState}
 use Rattle.press_stream.specs.Steps.{CarriesIdle, PassesOrStays, PassesRun, passed_each}
 use Rattle.press_stream.proofs.Going.{CarriesOn-none, passes-to_end}
@@ -48,14 +46,19 @@ each-steps (command ∷ given) old new going (next, passes, others) =
 
 each-owes : (given : List Token) (old new : JobState) → old.exited ≡ false → new.exited ≡ false → PassesEach old.held given new.held
     → (more : List ℕ) (commands : List Token) → Owes new more commands → Owes old more (given ++ commands)
-each-owes [] old new going still is more commands owes =
-    let P : ScannerState → Bool → Type 0 = λ held exited. Owes (record old { held = held; exited = exited }) more commands in
-    subst (λ (held : ScannerState). P held old.exited) is (subst (λ (exited : Bool). P new.held exited) (still ∙ sym going) owes)
+each-owes [] old new going still is more commands owes = grind arith
 each-owes (command ∷ given) old new going still (next, passes, others) more commands owes =
     let between : JobState = record old { held = next; exited = false } in
     passes-to_end old between command more (given ++ commands) going refl passes (each-owes given between new refl still others more commands owes)
 
 -- ---- what an engine leaves of them
+
+-- the machine behind several is counted at once
+each-passed : (prefix : List Token) (last : Token) (machine : Machine)
+    → passed_each (prefix ++ last ∷ []) machine ≡ passed (length (prefix ++ last ∷ [])) (kind_of last) machine
+each-passed [] last machine = refl
+each-passed (command ∷ prefix) last machine =
+    each-passed prefix last (passed 1 (kind_of command) machine) ∙ passed-more (length (prefix ++ last ∷ [])) command last machine
 
 no_effect : (controls : Bool) (state : State) → SkipsBytes state → (IsTrue controls → SkipsControls state) → (command : Token) → IsOneByte controls command → HasNoEffect state command
 no_effect controls state bytes some (Text byte) one = bytes.text byte
@@ -145,10 +148,7 @@ passes_on old new going still idle none carries =
           from = from;
           starts = carries.starts;
           ends = carries.ends ∙ ap (λ (m : Machine). Some m) (sym tells.machine);
-          are =
-              ap (λ (bodies : List Activation). left given bodies from) idle
-              ∙ sym (append-nil items)
-              ∙ ap (λ (bodies : List Activation). items ++ continuation bodies (last_machine from items)) (sym none);
+          are = grind (arith, append-nil);
         },
         sym (tells.outputs ∙ carries.nothing),
       );
@@ -160,10 +160,4 @@ passes_on old new going still idle none carries =
 
 -- in a job that runs no more nothing is taken
 pub PassesOn-none : (job : JobState) → IsSome job.machine → job.bodies ≡ [] → PassesOn job job
-PassesOn-none job running idle = record {
-  goes = CarriesOn-none job running;
-  idle = λ _. idle;
-  inside = λ some. absurd (some idle);
-  fewer = omega arith;
-  ended = refl;
-}
+PassesOn-none job running idle = grind (arith, CarriesOn-none)

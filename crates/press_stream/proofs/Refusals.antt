@@ -1,13 +1,12 @@
 -- What the refusals of a job leave, and what they tell of the sinks.
-use Rattle.std.proofs.Common.{◌≡◌, ◌∙◌, ℕ, List, [], Option, None, IsSome, OnErr, Result, Ok, Err, true, false, refl, sym}
-use Rattle.std.proofs.lemmas.Bool.{true≢false}
+use Rattle.std.proofs.Common.{◌≡◌, ℕ, List, Option, None, IsSome, OnErr, Result, Ok, Err, false, arith}
 use Rattle.press_engine.specs.declared.machine.Machine.{Machine}
 use Rattle.press_sink.specs.SinkLog.{SinkLog, SinkUse, under}
 use Rattle.press_sink.specs.Sending.{Output, HandsOut}
 use Rattle.press_stream.specs.declared.fault.JobError.{JobError}
 use Rattle.press_stream.specs.declared.fault.JobError.TheVariants as errors
 use Rattle.press_stream.specs.State.{JobState}
-use Rattle.press_stream.specs.Answers.{Faults, CarriesOrStops, Finishes, RunsThrough, RunsReader, Answered, IsEarly, ending_by, fault_of}
+use Rattle.press_stream.specs.Answers.{Faults, CarriesOrStops, Answered, IsEarly, ending_by, fault_of}
 use Rattle.press_stream.proofs.Carries.{same_fault}
 use Rattle.press_stream.proofs.Faults.{Faults-now}
 
@@ -31,22 +30,8 @@ is_early errors.NoMemory is = absurd cc
 Answered-by : (old new : JobState) (result : Result (Unit {0}) JobError) (Is : List Output → Type 0) (sinks : SinkUse) → IsSome old.machine
     → ((went : List Output) → Is went → NotRefused result new) → HandsOut (ending_by (fault_of result)) Is sinks
     → Answered old result new sinks.before sinks.after
-Answered-by old new (Ok done) Is sinks running not hands = record {
-  failed = (λ is. absurd (cc), λ none. absurd (no_machine old.machine running none));
-  unchanged = λ early. absurd early;
-  lost = tt;
-  sheet_faults = hands.took.sheet_faults;
-  reply_faults = hands.took.reply_faults;
-}
-Answered-by old new (Err error) Is sinks running not hands =
-    let here = not hands.went hands.is in
-    record {
-      failed = (λ is. absurd (here.later (is_early error (same_fault (Err error) error errors.Failed refl is))), λ none. absurd (no_machine old.machine running none));
-      unchanged = λ early. absurd (here.later early);
-      lost = λ _. here.lost;
-      sheet_faults = hands.took.sheet_faults;
-      reply_faults = hands.took.reply_faults;
-    }
+Answered-by old new (Ok done) Is sinks running not hands = grind (arith, no_machine)
+Answered-by old new (Err error) Is sinks running not hands = grind (arith, no_machine, is_early, same_fault)
 
 -- a job that had these bytes behind what it held
 Faults-lost : (old new : JobState) (bytes : List ℕ) (error : JobError) (went : List Output) → IsSome old.machine → Faults old bytes error new went
@@ -69,35 +54,3 @@ pub Answered-goes : (old new : JobState) (bytes : List ℕ) (result : Result (Un
     → Answered old result new before after
 Answered-goes old new bytes result tag before after running going =
     Answered-by old new result (CarriesOrStops old bytes result new) (under tag before after) running (λ went goes. CarriesOrStops-lost old new bytes result went running going goes)
-
--- the end of input
-pub Finishes-lost : (old new : JobState) (result : Result (Unit {0}) JobError) (went : List Output) → IsSome old.machine → Finishes old result new went → NotRefused result new
-Finishes-lost old new (Ok done) went running finishes = record { later = λ early. early; lost = tt }
-Finishes-lost old new (Err error) went running faults = Faults-lost old new [] error went running faults
-
-pub Answered-finish : (old new : JobState) (result : Result (Unit {0}) JobError) (tag : ℕ) (before after : SinkLog) → IsSome old.machine
-    → HandsOut (ending_by (fault_of result)) (Finishes old result new) (under tag before after) → Answered old result new before after
-Answered-finish old new result tag before after running =
-    Answered-by old new result (Finishes old result new) (under tag before after) running (λ went finishes. Finishes-lost old new result went running finishes)
-
--- a job that ran the bytes of a reader
-pub RunsThrough-lost : (old new : JobState) (bytes : List ℕ) (result : Result (Unit {0}) JobError) (went : List Output) → IsSome old.machine
-    → old.held.ended ≡ false → RunsThrough old bytes result new went → NotRefused result new
-RunsThrough-lost old new bytes (Ok done) went running going runs = record { later = λ early. early; lost = tt }
-RunsThrough-lost old new bytes (Err errors.ReadFault) went running going runs = record { later = λ early. early; lost = runs.0 }
-RunsThrough-lost old new bytes (Err errors.AfterEnd) went running going runs = absurd (true≢false (sym runs.0.1 ∙ going))
-RunsThrough-lost old new bytes (Err errors.SinkFault) went running going faults = Faults-lost old new bytes errors.SinkFault went running faults
-RunsThrough-lost old new bytes (Err errors.ReplyFault) went running going faults = Faults-lost old new bytes errors.ReplyFault went running faults
-RunsThrough-lost old new bytes (Err errors.NoMemory) went running going faults = Faults-lost old new bytes errors.NoMemory went running faults
-RunsThrough-lost old new bytes (Err errors.Failed) went running going faults = Faults-lost old new bytes errors.Failed went running faults
-
-pub Answered-run : (old new : JobState) (had left : Option (List ℕ)) (result : Result (Unit {0}) JobError) (tag : ℕ) (before after : SinkLog) → IsSome old.machine
-    → old.held.ended ≡ false → HandsOut (ending_by (fault_of result)) (RunsReader old had left result new) (under tag before after)
-    → Answered old result new before after
-Answered-run old new had left result tag before after running going =
-    Answered-by old new result (RunsReader old had left result new) (under tag before after) running
-    (λ went runs. RunsThrough-lost old new runs.bytes result went running going runs.through)
-
--- a job that takes more bytes does not refuse them as coming after the end
-pub not_after_end : (old : JobState) → old.held.ended ≡ false → old.held.ended ≡ true → ⊥
-not_after_end old going ended = absurd (true≢false (sym ended ∙ going))

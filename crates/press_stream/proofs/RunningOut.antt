@@ -1,5 +1,5 @@
 -- Bodies that run, until none does.
-use Rattle.std.proofs.Common.{◌≡◌, ◌≢◌, ◌∙◌, ◌<◌, ◌≤◌, List, [], ◌∷◌, ◌++◌, length, Option, Some, None, Ok, sym, ap, arith, inl, inr, length-append}
+use Rattle.std.proofs.Common.{◌≡◌, ◌≢◌, ◌<◌, ◌≤◌, List, [], ◌++◌, length, Option, Some, None, Ok, ap, arith, inl, inr, length-append}
 use Rattle.press_sink.specs.Sending.{Output}
 use Rattle.press_cmd.specs.Token.{Token}
 use Rattle.press_cmd.specs.declared.variant.Kind.{Kind}
@@ -7,11 +7,10 @@ use Rattle.press_engine.specs.declared.activation.Activation.{Activation}
 use Rattle.press_engine.specs.declared.machine.Machine.{Machine}
 use Rattle.press_engine.specs.Machine.{StepResult}
 use Rattle.press_engine.specs.Stack.{continuation}
-use Rattle.press_engine.specs.Trace.{last_machine}
 use Rattle.press_stream.specs.declared.step.Step.{Step}
 use Rattle.press_stream.specs.declared.step.Step.TheVariants as answers
 use Rattle.press_stream.specs.Answers.{TakesOf, Takes, ComesToWant}
-use Rattle.press_stream.specs.Meaning.{left, CarriesOn}
+use Rattle.press_stream.specs.Meaning.{CarriesOn}
 use Rattle.press_stream.specs.State.{JobState}
 use Rattle.press_stream.specs.Steps.{Does}
 use Rattle.press_stream.proofs.Items.{left-none}
@@ -43,23 +42,11 @@ ran_inside old new answers.Ended went inside (over, _, _) = absurd (inside over.
 
 -- A step in a body leaves one item fewer.
 pub one_fewer : (old new : JobState) (item : StepResult) (kind : Kind) → old.bodies ≢ [] → Does old item kind new → length (still_owed new) < length (still_owed old)
-one_fewer old new item kind inside did =
-    let here = owed_at old.bodies old.machine did.from did.starts in
-    let there = owed_at new.bodies new.machine item.machine did.ends in
-    let none : did.given ≡ [] = nothing_taken old did.given inside (taken-of old new did.given did.takes) in
-    let all : continuation old.bodies did.from ≡ item ∷ continuation new.bodies item.machine =
-    sym (left-none old.bodies did.from) ∙ ap (λ (commands : List Token). left commands old.bodies did.from) (sym none) ∙ did.are in
-    rw (here, there, all) (omega arith)
+one_fewer old new item kind inside did = grind (arith, owed_at, nothing_taken, left-none, taken-of)
 
 -- Items that nothing of the stream was taken for leave no more.
 pub no_more : (old new : JobState) (went : List Output) → (goes : CarriesOn old [] new went) → goes.0 ≡ [] → length (still_owed new) ≤ length (still_owed old)
-no_more old new went (given, items, goes, is) none =
-    let last = last_machine goes.from items in
-    let here = owed_at old.bodies old.machine goes.from goes.starts in
-    let there = owed_at new.bodies new.machine last goes.ends in
-    let all : continuation old.bodies goes.from ≡ items ++ continuation new.bodies last =
-    sym (left-none old.bodies goes.from) ∙ ap (λ (commands : List Token). left commands old.bodies goes.from) (sym none) ∙ goes.are in
-    rw (here, there, all) (omega (arith, length-append items (continuation new.bodies last)))
+no_more old new went (given, items, goes, is) none = grind (arith, owed_at, length-append, left-none)
 
 -- No body runs, so a step takes a command of the stream.
 pub one_taken : (job : JobState) (given : List Token) → job.bodies ≡ [] → TakesOf job given → 1 ≤ length given

@@ -1,11 +1,10 @@
 -- Hungry is answered exactly where no item of the trace so far is left, and Ended exactly where no step is.
-use Rattle.std.proofs.Common.{◌≡◌, ◌⊎◌, ◌∙◌, inl, inr, ℕ, List, [], ◌∷◌, ◌++◌, length, length-append, Option, None, IsSome, Result, Ok, Err, true, false, true≢false, refl, sym, ap, subst, arith}
+use Rattle.std.proofs.Common.{◌≡◌, ◌∙◌, inl, inr, ℕ, List, [], ◌∷◌, ◌++◌, length, length-append, Option, None, IsSome, Result, Ok, Err, false, true≢false, refl, sym, ap, subst, arith}
 use Rattle.std.proofs.lemmas.List.{append-nil}
-use Rattle.press_cmd.specs.ParserState.{ParserState, Exit}
-use Rattle.press_cmd.specs.Token.{Token, Uel}
-use Rattle.press_cmd.specs.Split.{Steps, NoHead, SplitFrom}
+use Rattle.press_cmd.specs.ParserState.{Exit}
+use Rattle.press_cmd.specs.Token.{Token}
+use Rattle.press_cmd.specs.Split.{NoHead, SplitFrom}
 use Rattle.press_cmd.proofs.Splits.{one_split, some_split, steps-then}
-use Rattle.press_scan.specs.Gives.{IsDone, IsNext}
 use Rattle.press_sink.specs.Sending.{Output}
 use Rattle.press_engine.specs.Machine.{StepResult, power_on}
 use Rattle.press_engine.specs.Stack.{continuation, IsReady}
@@ -20,7 +19,7 @@ use Rattle.press_stream.specs.declared.step.Step.TheVariants as steps
 use Rattle.press_stream.specs.State.{JobState, NeedsInput, IsOver, opened}
 use Rattle.press_stream.specs.Meaning.{CarriesOut}
 use Rattle.press_stream.specs.Steps.{TakesGiven}
-use Rattle.press_stream.specs.Answers.{IsDue, StandsStill, Takes, TakesOf}
+use Rattle.press_stream.specs.Answers.{StandsStill, Takes, TakesOf}
 use Rattle.press_stream.specs.Traced.{IsTraceSoFar}
 use Rattle.press_stream.proofs.ChainLaws.{by_steps}
 use Rattle.press_stream.proofs.Going.{next_runs}
@@ -41,15 +40,9 @@ short_of job needs = record { running = needs.running; idle = needs.idle; going 
 no_machine : (machine : Option Machine) → IsSome machine → machine ≡ None → ⊥
 no_machine machine some none = cc
 
-not_due : (job : JobState) → IsShort job → (command : Token) → IsDue job command → ⊥
-not_due job is command due = at due.2 where
-  at : IsNext job.held command ⊎ ((job.held.ended ≡ true) × IsDone job.held × (command ≡ Uel)) → ⊥
-  at (inl next) = let head = next.1.head is.going in is.short head.0 next.0.bytes command next.0.mode head.1 head.2
-  at (inr end) = true≢false (sym end.0 ∙ is.going)
-
 short-takes : (job : JobState) → IsShort job → (given : List Token) → TakesOf job given → ⊥
 short-takes job is given (inl body) = body.0 is.idle
-short-takes job is given (inr due) = not_due job is due.0 due.1
+short-takes job is given (inr due) = grind (arith, due.1)
 
 short-given : (old new : JobState) → IsShort old → (given : List Token) → TakesGiven old given new → ⊥
 short-given old new is given (inl nothing) = next_runs old.bodies nothing.0 is.idle
@@ -91,12 +84,6 @@ ended old new (Err errors.NoMemory) went over takes = absurd (over-takes old ove
 
 -- ---- by the trace of the bytes so far
 
-traced-of : (bytes : List ℕ) (given : List Token) (items : List StepResult) (job : JobState) → CarriesOut opened bytes given items job → NeedsInput job → IsTraceSoFar bytes items
-traced-of bytes given items job goes needs =
-    let nothing : continuation job.bodies (last_machine power_on items) ≡ [] = ap (λ (bodies : List Activation). continuation bodies (last_machine power_on items)) needs.idle in
-    let all : trace given power_on ≡ items = (by_steps bytes given items job goes).are ∙ ap (λ (rest : List StepResult). items ++ rest) nothing ∙ append-nil items in
-    (given, job.held.mode, job.held.bytes, record { steps = (goes.so_far needs.going).1; short = needs.short }, sym all)
-
 -- what is as long with others behind it has none
 nothing_of : {X : Type 0} (items : List X) → length items ≡ 0 → items ≡ []
 nothing_of [] is = refl
@@ -115,11 +102,6 @@ no_command : (commands : List Token) (machine : Machine) → trace commands mach
 no_command [] machine none = refl
 no_command (command ∷ commands) machine none = absurd (command_owes command commands [] machine none)
 
-no_head : (from mode : ParserState) (bytes rest : List ℕ) (commands : List Token) → commands ≡ [] → SplitFrom from bytes commands mode rest → NoHead from bytes
-no_head from mode bytes rest commands none split =
-    let same : Steps from bytes [] mode rest = subst (λ (these : List Token). Steps from bytes these mode rest) none split.steps in
-    subst (λ (at : ParserState). NoHead at bytes) (sym same.0) (subst (λ (left : List ℕ). NoHead mode left) (sym same.1) split.short)
-
 short-of-traced : (bytes : List ℕ) (given : List Token) (items : List StepResult) (job : JobState) → IsReady job.bodies
     → CarriesOut opened bytes given items job → job.held.ended ≡ false → IsTraceSoFar bytes items → IsShort job
 short-of-traced bytes given items job ready goes going (commands, mode, rest, split, are) =
@@ -133,13 +115,12 @@ short-of-traced bytes given items job ready goes going (commands, mode, rest, sp
     let at = last_machine power_on (trace given power_on) in
     let owed = continuation job.bodies (last_machine power_on items) in
     let none = none_behind items owed (trace found.commands at)
-    (are ∙ ap (λ (these : List Token). trace these power_on) same.0 ∙ trace-append given found.commands power_on
-    ∙ ap (λ (front : List StepResult). front ++ trace found.commands at) begun.are) in
+    grind (arith, are, same.0, trace-append given found.commands power_on, begun.are) in
     record {
       running = subst IsSome (sym goes.ends) refl;
       idle = no_body job.bodies (last_machine power_on items) ready none.0;
       going = going;
-      short = no_head job.held.mode found.mode job.held.bytes found.rest found.commands (no_command found.commands at none.1) found.split;
+      short = grind (arith, no_command found.commands at none.1, found.split);
     }
 
 -- ---- both ways
@@ -153,7 +134,7 @@ stands_still old new result went ready takes =
       hungry = (needs, λ is. hungry old new result went (short_of old is) takes);
       over = (over, λ is. ended old new result went is takes);
       traced = λ bytes given items goes going. (
-        λ is. traced-of bytes given items old goes (needs is),
+        λ is. grind (arith, append-nil items, needs is),
         λ are. hungry old new result went (short-of-traced bytes given items old ready goes going are) takes,
       );
     }

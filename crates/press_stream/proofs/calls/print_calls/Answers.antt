@@ -9,7 +9,7 @@ use Rattle.press_stream.specs.State.{opened}
 use Rattle.press_stream.proofs.Going.{CarriesOn-to}
 use Rattle.press_stream.proofs.MeaningLaws.{printed-means}
 use Rattle.press_stream.proofs.ChainLemmas.{opened-going, pieces-next, HandsOut-opened, HandsOut-more, Prints-end, pieces-rest, PrintedTo-before, PrintedTo-none, PrintedTo-end}
-use Rattle.press_stream.proofs.ChainLemmas.{Faults-handed, stops-handed}
+use Rattle.press_stream.proofs.ChainLemmas.{stops-handed}
 use Rattle.press_stream.proofs.calls.print_calls.Goals as goal
 
 pub loop-call-init : goal.loop-call-init
@@ -43,12 +43,6 @@ returns-clause-ok g c =
 pub returns-clause-means : goal.returns-clause-means
 returns-clause-means g c = printed-means (flat_map bytes_of c.args.calls.now) c.finish.new.self.machine c.args.tag _ _ (returns-clause-ok g c)
 
-pub returns-clause-over : goal.returns-clause-over
-returns-clause-over g c = (rw c.in_ok-finish.was at c.finish.ensures.finishes).is.1
-
-pub make-requires-clause-going : goal.make-requires-clause-going
-make-requires-clause-going g c = c.loop-call.invariant.going
-
 pub returns-in_err-job-clause-err : goal.returns-in_err-job-clause-err
 returns-in_err-job-clause-err g c =
     rw (exit-is c.from_residual.ensures.1) (PrintedTo-none c.chain.ensures.prints (flat_map bytes_of c.args.calls.now) c.args.tag _)
@@ -77,9 +71,6 @@ returns-in_err-finish-clause-err g c =
     c.args.tag c.in_err-finish.field-0.0 c.loop-call.job c.finish.new.self _ _ _
     (sym (ap (flat_map bytes_of) (take_all i calls c.loop-call-test.false))) c.loop-call.invariant.goes c.in_err-finish.ensures.finishes)
 
-pub returns-in_err-job-clause-unread : goal.returns-in_err-job-clause-unread
-returns-in_err-job-clause-unread g c = rw (exit-is c.from_residual.ensures.1) tt
-
 pub returns-in_err-make-clause-unread : goal.returns-in_err-make-clause-unread
 returns-in_err-make-clause-unread g c =
     let calls = c.args.calls.now in
@@ -90,11 +81,3 @@ returns-in_err-make-clause-unread g c =
     let goes = c.in_err-make.ensures.goes in
     rw (exit-is c.from_residual-in_err-make.ensures.1)
     (stops-handed c.loop-call.job c.make.new.job (bytes_of call) c.in_err-make.field-0.0 goes.went running so_far.going goes.is)
-
-pub returns-in_err-finish-clause-unread : goal.returns-in_err-finish-clause-unread
-returns-in_err-finish-clause-unread g c =
-    let so_far = c.loop-call.invariant in
-    let running = CarriesOn-to opened c.loop-call.job (flat_map bytes_of (take c.loop-call.call-index c.args.calls.now)) so_far.goes.went so_far.goes.is in
-    let stops = c.in_err-finish.ensures.finishes in
-    rw (exit-is c.from_residual-in_err-finish.ensures.1)
-    (Faults-handed c.loop-call.job c.finish.new.self [] c.in_err-finish.field-0.0 stops.went running stops.is)

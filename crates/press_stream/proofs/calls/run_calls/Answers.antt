@@ -1,4 +1,4 @@
-use Rattle.std.proofs.Common.{◌≡◌, [], ◌+◌, ◌++◌, Ok, Err, refl, sym, ap, get_or, take, drop}
+use Rattle.std.proofs.Common.{◌≡◌, [], ◌+◌, ◌++◌, Ok, Err, refl, sym, ap, get_or, take, drop, arith}
 use Rattle.std.specs.List.{flat_map}
 use Rattle.std.proofs.lemmas.List.{take_all}
 use Rattle.press_units.proofs.ExitLemmas.{exit-is}
@@ -9,10 +9,9 @@ use Rattle.press_stream.specs.State.{opened}
 use Rattle.press_stream.proofs.Carries.{same_fault}
 use Rattle.press_stream.proofs.Faults.{no_read_fault}
 use Rattle.press_stream.proofs.Going.{CarriesOn-to}
-use Rattle.press_stream.proofs.Refusals.{RunsThrough-lost}
 use Rattle.press_stream.proofs.ChainLemmas.{opened-going, pieces-next, HandsOut-opened, HandsOut-more, pieces-rest}
-use Rattle.press_stream.proofs.ChainLemmas.{PrintedTo-before, Printed-stopped, Printed-run, read-over}
-use Rattle.press_stream.proofs.ChainLemmas.{stops-handed, handed-read, run-read, run-means}
+use Rattle.press_stream.proofs.ChainLemmas.{PrintedTo-before, Printed-stopped, Printed-run}
+use Rattle.press_stream.proofs.ChainLemmas.{stops-handed, handed-read, run-means}
 use Rattle.press_stream.proofs.calls.run_calls.Goals as goal
 
 pub loop-call-init : goal.loop-call-init
@@ -21,14 +20,6 @@ loop-call-init g c = record {
   going = opened-going c.args.job.now c.requires.opened;
   has_fault_room = c.requires.has_fault_room;
 }
-
-pub make-requires-clause-running : goal.make-requires-clause-running
-make-requires-clause-running g c =
-    let goes = c.loop-call.invariant.goes in
-    CarriesOn-to opened c.loop-call.job (flat_map bytes_of (take c.loop-call.call-index c.args.calls.now)) goes.went goes.is
-
-pub make-requires-clause-going : goal.make-requires-clause-going
-make-requires-clause-going g c = c.loop-call.invariant.going
 
 pub loop-call-preserved : goal.loop-call-preserved
 loop-call-preserved g c =
@@ -69,29 +60,10 @@ returns-clause-prints g c =
     (sym (ap (flat_map bytes_of) (take_all i calls c.loop-call-test.false))) c.loop-call.invariant.going c.loop-call.invariant.goes c.run.ensures.runs
 
 pub returns-clause-means : goal.returns-clause-means
-returns-clause-means g c =
-    run-means (flat_map bytes_of c.args.calls.now) (g.R.ReadDevice.remaining c.args.reader.now) (g.R.ReadDevice.remaining c.run.new.reader) c.args.tag
-    c.run.result c.run.new.self.machine _ _ (returns-clause-prints g c)
+returns-clause-means g c = grind (arith, run-means, returns-clause-prints)
 
 pub returns-in_err-make-clause-cause : goal.returns-in_err-make-clause-cause
-returns-in_err-make-clause-cause g c =
-    let call = get_or c.args.calls.now c.loop-call.call-index (Push (record { ref_ptr = (0, 0); now = [] })) in
-    let goes = c.in_err-make.ensures.goes in
-    rw (exit-is c.from_residual.ensures.1)
-    (λ e. absurd (no_read_fault c.loop-call.job c.make.new.job (bytes_of call) _ goes.went c.loop-call.invariant.going (same_fault _ _ _ refl e) goes.is))
-
-pub returns-clause-over : goal.returns-clause-over
-returns-clause-over g c =
-    let runs = c.run.ensures.runs in
-    read-over c.loop-call.job c.run.new.self runs.is.bytes c.run.result runs.went runs.is.through
-
-pub returns-clause-failed : goal.returns-clause-failed
-returns-clause-failed g c =
-    let runs = c.run.ensures.runs in
-    let goes = c.loop-call.invariant.goes in
-    let running = CarriesOn-to opened c.loop-call.job (flat_map bytes_of (take c.loop-call.call-index c.args.calls.now)) goes.went goes.is in
-    (RunsThrough-lost c.loop-call.job c.run.new.self runs.is.bytes c.run.result runs.went running
-    c.loop-call.invariant.going runs.is.through).lost
+returns-in_err-make-clause-cause g c = grind (arith, exit-is, no_read_fault, same_fault)
 
 pub returns-in_err-make-clause-listed : goal.returns-in_err-make-clause-listed
 returns-in_err-make-clause-listed g c =
@@ -104,10 +76,3 @@ returns-in_err-make-clause-listed g c =
     rw (exit-is c.from_residual.ensures.1)
     (handed-read c.in_err-make.field-0.0
     (stops-handed c.loop-call.job c.make.new.job (bytes_of call) c.in_err-make.field-0.0 goes.went running so_far.going goes.is))
-
-pub returns-clause-listed : goal.returns-clause-listed
-returns-clause-listed g c =
-    let runs = c.run.ensures.runs in
-    let goes = c.loop-call.invariant.goes in
-    let running = CarriesOn-to opened c.loop-call.job (flat_map bytes_of (take c.loop-call.call-index c.args.calls.now)) goes.went goes.is in
-    run-read c.loop-call.job c.run.new.self runs.is.bytes c.run.result runs.went running c.loop-call.invariant.going runs.is.through

@@ -1,6 +1,5 @@
-use Rattle.std.proofs.Common.{◌≡◌, ◌∙◌, Option, IsSome, refl, sym, subst}
+use Rattle.std.proofs.Common.{◌≡◌, ◌∙◌, refl, sym, subst, arith}
 use Rattle.press_scan.specs.ScannerState.{ScannerState}
-use Rattle.press_engine.specs.declared.machine.Machine.{Machine}
 use Rattle.press_engine.specs.Engine.{machine_of}
 use Rattle.press_stream.specs.declared.phase.Phase.TheVariants.{Running}
 use Rattle.press_stream.specs.Answers.{PassesOn}
@@ -9,8 +8,7 @@ use Rattle.press_stream.proofs.Passing.{each-stays, CarriesIdle-some, passes_on,
 use Rattle.press_stream.proofs.carrying.pass.Goals as goal
 
 pub returns-then-not-skips_bytes-clause-passes : goal.returns-then-not-skips_bytes-clause-passes
-returns-then-not-skips_bytes-clause-passes c =
-    PassesOn-none (job_state c.args.scanner.now c.args.engine.now Running) c.requires.running c.requires.none
+returns-then-not-skips_bytes-clause-passes c = grind (arith, PassesOn-none (job_state c.args.scanner.now c.args.engine.now Running) c.requires.running c.requires.none)
 
 pub returns-in-None-clause-passes : goal.returns-in-None-clause-passes
 returns-in-None-clause-passes c =
@@ -35,9 +33,4 @@ returns-in-Some-clause-counts c =
     c.pass-in-Some.ensures.passed (c.requires.none, c.pass-in-Some.ensures.bodies ∙ c.requires.none) (refl, refl)
 
 pub returns-in-Some-clause-fits : goal.returns-in-Some-clause-fits
-returns-in-Some-clause-fits c =
-    let next = c.pass.new.self in
-    let new = c.pass-in-Some.new.self in
-    let carries = CarriesIdle-some c.skips_controls.result c.args.scanner.now next (machine_of c.args.engine.now) (machine_of new) c.in-Some.passed c.requires.running
-    (c.skips_bytes.ensures c.if-not-skips_bytes.false) c.skips_controls.ensures (rw c.in-Some.is at c.pass.ensures) c.pass-in-Some.ensures.passed in
-    (subst (λ (machine : Option Machine). IsSome machine) (sym carries.ends) refl, (each-stays carries.given c.args.scanner.now next carries.each).room ∙ c.requires.room)
+returns-in-Some-clause-fits c = grind (arith, each-stays)

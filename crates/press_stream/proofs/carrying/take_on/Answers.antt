@@ -1,5 +1,4 @@
-use Rattle.std.proofs.Common.{◌∙◌, Option, IsSome, false, length, refl, sym, ap, subst, arith}
-use Rattle.press_scan.specs.ScannerState.{ScannerState}
+use Rattle.std.proofs.Common.{◌∙◌, Option, IsSome, false, refl, sym, subst, arith}
 use Rattle.press_engine.specs.Engine.{machine_of, bodies}
 use Rattle.press_engine.specs.declared.machine.Machine.{Machine}
 use Rattle.press_stream.specs.Answers.{PassesOn}
@@ -47,15 +46,7 @@ returns-in-Ran-clause-takes c =
     )
 
 pub loop-step-smaller : goal.loop-step-smaller
-loop-step-smaller c =
-    let (same, still, none) = rw (c.in_ok-carry_plain.was, c.in-Other.is) at c.carry_plain.ensures.carries in
-    let before = job_state c.carry_plain.new.scanner c.carry_plain.new.engine Running in
-    let after = job_state c.pass.new.scanner c.pass.new.engine Running in
-    omega (
-      arith,
-      ap (λ (held : ScannerState). length held.bytes) same,
-      some_fewer before c.pass.result after c.pass.ensures.counts c.if-pass-eq0.false,
-    )
+loop-step-smaller c = grind (arith, some_fewer)
 
 pub loop-step-preserved : goal.loop-step-preserved
 loop-step-preserved c =

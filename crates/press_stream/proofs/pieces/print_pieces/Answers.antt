@@ -1,4 +1,4 @@
-use Rattle.std.proofs.Common.{◌≡◌, [], ◌+◌, ◌++◌, Ok, Err, refl, sym, ap, get_or, take, drop}
+use Rattle.std.proofs.Common.{◌≡◌, [], ◌+◌, ◌++◌, Ok, Err, refl, sym, ap, get_or, take, drop, arith}
 use Rattle.std.specs.List.{flat_map}
 use Rattle.std.proofs.lemmas.List.{take_all}
 use Rattle.press_units.proofs.ExitLemmas.{exit-is}
@@ -6,7 +6,7 @@ use Rattle.press_sink.proofs.SendingLemmas.{Took-has_fault_room}
 use Rattle.press_stream.specs.State.{opened}
 use Rattle.press_stream.proofs.MeaningLaws.{printed-means}
 use Rattle.press_stream.proofs.Going.{CarriesOn-to}
-use Rattle.press_stream.proofs.ChainLemmas.{Faults-handed, stops-handed}
+use Rattle.press_stream.proofs.ChainLemmas.{stops-handed}
 use Rattle.press_stream.proofs.ChainLemmas.{opened-going, pieces-next, HandsOut-opened, HandsOut-more, Prints-end, pieces-rest, PrintedTo-before, PrintedTo-none, PrintedTo-end, fed}
 use Rattle.press_stream.proofs.pieces.print_pieces.Goals as goal
 
@@ -40,12 +40,8 @@ returns-clause-ok g c =
     c.loop-piece.job c.finish.new.self _ _ _ (sym (ap (flat_map (λ piece. piece.now)) (take_all i pieces c.loop-piece-test.false)))
     c.loop-piece.invariant.goes (rw c.in_ok-finish.was at c.finish.ensures.finishes)
 
-pub returns-clause-over : goal.returns-clause-over
-returns-clause-over g c = (rw c.in_ok-finish.was at c.finish.ensures.finishes).is.1
-
 pub returns-clause-means : goal.returns-clause-means
-returns-clause-means g c =
-    printed-means (flat_map (λ piece. piece.now) c.args.pieces.now) c.finish.new.self.machine c.args.tag _ _ (returns-clause-ok g c)
+returns-clause-means g c = grind (arith, printed-means (flat_map (λ piece. piece.now) c.args.pieces.now) c.finish.new.self.machine c.args.tag _ _ (returns-clause-ok g c))
 
 pub returns-in_err-job-clause-err : goal.returns-in_err-job-clause-err
 returns-in_err-job-clause-err g c =
@@ -75,9 +71,6 @@ returns-in_err-finish-clause-err g c =
     c.args.tag c.in_err-finish.field-0.0 c.loop-piece.job c.finish.new.self _ _ _
     (sym (ap (flat_map (λ piece. piece.now)) (take_all i pieces c.loop-piece-test.false))) c.loop-piece.invariant.goes c.in_err-finish.ensures.finishes)
 
-pub returns-in_err-job-clause-unread : goal.returns-in_err-job-clause-unread
-returns-in_err-job-clause-unread g c = rw (exit-is c.from_residual.ensures.1) tt
-
 pub returns-in_err-feed-clause-unread : goal.returns-in_err-feed-clause-unread
 returns-in_err-feed-clause-unread g c =
     let pieces = c.args.pieces.now in
@@ -88,11 +81,3 @@ returns-in_err-feed-clause-unread g c =
     let goes = fed c.loop-piece.job c.feed.new.self piece.now c.args.tag (Err c.in_err-feed.field-0.0) _ _ so_far.going c.in_err-feed.ensures.feeds in
     rw (exit-is c.from_residual-in_err-feed.ensures.1)
     (stops-handed c.loop-piece.job c.feed.new.self piece.now c.in_err-feed.field-0.0 goes.went running so_far.going goes.is)
-
-pub returns-in_err-finish-clause-unread : goal.returns-in_err-finish-clause-unread
-returns-in_err-finish-clause-unread g c =
-    let so_far = c.loop-piece.invariant in
-    let running = CarriesOn-to opened c.loop-piece.job (flat_map (λ piece. piece.now) (take c.loop-piece.piece-index c.args.pieces.now)) so_far.goes.went so_far.goes.is in
-    let stops = c.in_err-finish.ensures.finishes in
-    rw (exit-is c.from_residual-in_err-finish.ensures.1)
-    (Faults-handed c.loop-piece.job c.finish.new.self [] c.in_err-finish.field-0.0 stops.went running stops.is)

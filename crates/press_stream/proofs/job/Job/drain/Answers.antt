@@ -5,30 +5,10 @@ use Rattle.press_stream.specs.declared.fault.JobError.{JobError}
 use Rattle.press_stream.specs.declared.step.Step.TheVariants as answers
 use Rattle.press_stream.proofs.Carries.{same_fault}
 use Rattle.press_stream.proofs.Changing.{HandsOut-behind, HandsOut-between}
-use Rattle.press_stream.proofs.Going.{CarriesOn-to, taken-of, taken-fewer, taken-ended}
+use Rattle.press_stream.proofs.Going.{CarriesOn-to, taken-ended}
 use Rattle.press_stream.proofs.Faults.{HandsOut-goes, HandsOut-step, HandsOut-stopped, idle_of}
-use Rattle.press_stream.proofs.RunningOut.{one_taken, Wants-after}
+use Rattle.press_stream.proofs.RunningOut.{Wants-after}
 use Rattle.press_stream.proofs.job.Job.drain.Goals as goal
-
-pub returns-in_err-run_out-clause-drains : goal.returns-in_err-run_out-clause-drains
-returns-in_err-run_out-clause-drains g c =
-    rw (exit-is c.from_residual.ensures.1) (rw c.in_err-run_out.was at c.run_out.ensures.runs_out)
-
-pub loop-self-init : goal.loop-self-init
-loop-self-init g c =
-    let out = rw c.in_ok-run_out.was at c.run_out.ensures.runs_out in
-    let idle = rw c.in_ok-run_out.was at c.run_out.ensures.idle in
-    record {
-      goes = out;
-      still = idle.2;
-      has_fault_room = Took-has_fault_room c.args.tag out.went _ _ out.took c.requires.has_fault_room;
-      idle = idle.0;
-    }
-
-pub step_on-requires-clause-running : goal.step_on-requires-clause-running
-step_on-requires-clause-running g c =
-    let goes = c.loop-self.invariant.goes in
-    CarriesOn-to c.args.self.now c.loop-self.self [] goes.went goes.is
 
 pub returns-in_err-step_on-clause-drains : goal.returns-in_err-step_on-clause-drains
 returns-in_err-step_on-clause-drains g c =
@@ -93,19 +73,6 @@ loop-self-preserved g c =
       idle = idle.0;
     }
 
-pub loop-self-smaller : goal.loop-self-smaller
-loop-self-smaller g c =
-    let on = rw (c.in_ok-step_on.was, c.in-Ran.is) at c.step_on.ensures in
-    let (item, did, is) = on.is.2 in
-    let idle = rw c.in_ok-run_out-2.was at c.run_out-in-Ran.ensures.idle in
-    omega (
-      arith,
-      one_taken on.is.0 did.given (on.is.1.idle c.loop-self.invariant.idle) (taken-of on.is.0 c.step_on.new.self did.given did.takes),
-      taken-fewer on.is.0 c.step_on.new.self did.given did.takes,
-      idle.1,
-      on.is.1.fewer,
-    )
-
 pub returns-clause-drains : goal.returns-clause-drains
 returns-clause-drains g c =
     let on = rw c.in_ok-step_on.was at c.step_on.ensures in
@@ -116,7 +83,4 @@ returns-clause-drains g c =
     (CarriesOn-to c.args.self.now on.is.0 [] gone.went gone.is) (HandsOut-behind c.loop-self.self c.step_on.new.self (Ok _) c.args.tag _ _ on))
 
 pub returns-clause-idle : goal.returns-clause-idle
-returns-clause-idle g c =
-    let on = rw c.in_ok-step_on.was at c.step_on.ensures in
-    let idle = idle_of on.is.0 c.step_on.new.self c.in_ok-step_on.field-0 on.went c.in_default.not-Ran on.is.2 in
-    (idle.0, idle.1 ∙ on.is.1.ended ∙ c.loop-self.invariant.still)
+returns-clause-idle g c = grind (arith, idle_of)

@@ -1,9 +1,11 @@
+use Rattle.std.proofs.lemmas.Bool.{true≢false}
+use Rattle.std.proofs.Common.{arith}
 use Rattle.std.proofs.Common.{◌≡◌, ◌∙◌, ℕ, List, [], ◌++◌, take, drop, Ok, Err, refl, sym, ap, append_assoc}
 use Rattle.std.proofs.lemmas.List.{take-append-drop, take_rest}
 use Rattle.press_units.proofs.ExitLemmas.{exit-is}
 use Rattle.press_sink.proofs.SendingLemmas.{Took-has_fault_room}
 use Rattle.press_stream.proofs.Going.{CarriesOn-none}
-use Rattle.press_stream.proofs.Faults.{HandsOut-before, HandsOut-goes, HandsOut-nothing, HandsOut-part, hungry_of}
+use Rattle.press_stream.proofs.Faults.{HandsOut-before, HandsOut-goes, HandsOut-nothing, HandsOut-part}
 use Rattle.press_stream.proofs.job.Job.feed_by_parts.Goals as goal
 
 pub loop-rest-init : goal.loop-rest-init
@@ -31,7 +33,7 @@ loop-rest-preserved g c =
           ∙ sym (append_assoc so_far.fed part (drop c.take-count.result c.loop-rest.rest.now))
           ∙ ap (λ (xs : List ℕ). (so_far.fed ++ part) ++ xs) (sym (take_rest c.loop-rest.rest.now c.take-count.result));
       goes = HandsOut-goes c.args.self.now c.loop-rest.self c.drain.new.self so_far.fed part (Ok tt) c.args.tag _ _ _ (so_far.hungry.going ∙ sym c.requires.hungry.going) so_far.goes taken;
-      hungry = hungry_of c.take-count.new.self c.drain.new.self going idle.0 idle.1;
+      hungry = grind (arith, true≢false, idle.0, idle.1);
       has_fault_room = Took-has_fault_room c.args.tag taken.went _ _ taken.took so_far.has_fault_room;
     }
 

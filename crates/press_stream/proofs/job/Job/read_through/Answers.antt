@@ -1,9 +1,9 @@
-use Rattle.std.proofs.Common.{rules, arith, ℕ, ◌++◌, [], take, subst, refl}
+use Rattle.std.proofs.Common.{rules, arith, ℕ, ◌++◌, take, subst}
 use Rattle.press_units.proofs.ExitLemmas.{exit-is}
 use Rattle.std.specs.Io.KnownBytes.{Consumes}
 use Rattle.std.proofs.KnownBytes.{Consumes-trans}
 use Rattle.press_sink.proofs.SendingLemmas.{Took-has_fault_room}
-use Rattle.press_stream.proofs.RunLemmas.{RunsReader-drain, RunsReader-finish, RunsReader-feed, RunsReader-read_fault, HandsOut-fed}
+use Rattle.press_stream.proofs.RunLemmas.{RunsReader-drain, RunsReader-finish, RunsReader-feed, HandsOut-fed}
 use Rattle.press_stream.proofs.Carries.{same_fault}
 use Rattle.press_stream.proofs.Faults.{no_read_fault, no_read_fault-fed}
 use Rattle.press_stream.proofs.job.Job.read_through.Goals as goal
@@ -14,14 +14,10 @@ returns-in_err-drain-clause-runs g c =
     c.requires.going (rw c.in_err-drain.was at c.drain.ensures.drains))
 
 pub returns-in_err-drain-clause-fault : goal.returns-in_err-drain-clause-fault
-returns-in_err-drain-clause-fault g c =
-    let drains = rw c.in_err-drain.was at c.drain.ensures.drains in
-    rw (exit-is c.from_residual.ensures.1) (λ e. absurd (no_read_fault c.args.self.now c.drain.new.self [] _ drains.went c.requires.going (same_fault _ _ _ refl e) drains.is))
+returns-in_err-drain-clause-fault g c = grind (arith, exit-is, no_read_fault, same_fault)
 
 pub returns-in_err-drain-clause-cause : goal.returns-in_err-drain-clause-cause
-returns-in_err-drain-clause-cause g c =
-    let drains = rw c.in_err-drain.was at c.drain.ensures.drains in
-    rw (exit-is c.from_residual.ensures.1) (λ e. absurd (no_read_fault c.args.self.now c.drain.new.self [] _ drains.went c.requires.going (same_fault _ _ _ refl e) drains.is))
+returns-in_err-drain-clause-cause g c = grind (arith, exit-is, no_read_fault, same_fault)
 
 pub returns-then-length-eq0-clause-runs : goal.returns-then-length-eq0-clause-runs
 returns-then-length-eq0-clause-runs g c =
@@ -63,26 +59,7 @@ returns-in_err-feed-clause-runs g c =
     c.args.tag _ _ _ _ so_far.lost so_far.hungry gives.1 so_far.goes (rw c.in_err-feed.was at c.feed.ensures.feeds))
 
 pub returns-in_err-feed-clause-fault : goal.returns-in_err-feed-clause-fault
-returns-in_err-feed-clause-fault g c =
-    let feeds = rw c.in_err-feed.was at c.feed.ensures.feeds in
-    rw (exit-is c.from_residual-in_err-feed.ensures.1) (λ e.
-    absurd (no_read_fault-fed c.loop-length.self c.feed.new.self (take c.in-Ok.length c.read_next.new.piece) _ feeds.went
-    c.loop-length.invariant.hungry.going (same_fault _ _ _ refl e) feeds.is))
+returns-in_err-feed-clause-fault g c = grind (arith, exit-is, no_read_fault-fed, same_fault)
 
 pub returns-in_err-feed-clause-cause : goal.returns-in_err-feed-clause-cause
-returns-in_err-feed-clause-cause g c =
-    let feeds = rw c.in_err-feed.was at c.feed.ensures.feeds in
-    rw (exit-is c.from_residual-in_err-feed.ensures.1) (λ e.
-    absurd (no_read_fault-fed c.loop-length.self c.feed.new.self (take c.in-Ok.length c.read_next.new.piece) _ feeds.went
-    c.loop-length.invariant.hungry.going (same_fault _ _ _ refl e) feeds.is))
-
--- no piece more was read
-pub returns-in_default-clause-runs : goal.returns-in_default-clause-runs
-returns-in_default-clause-runs g c =
-    let so_far = c.loop-length.invariant in
-    let now = g.R.ReadDevice.remaining c.read_next.new.reader in
-    rw c.read_fault.ensures.fault (RunsReader-read_fault c.args.self.now c.loop-length.self c.read_fault.new.self
-    (g.R.ReadDevice.remaining c.args.reader.now) now so_far.bytes c.args.tag _ _ (search rules) so_far.hungry c.read_fault.ensures.failed so_far.goes)
-
-pub returns-in_default-clause-cause : goal.returns-in_default-clause-cause
-returns-in_default-clause-cause g c = λ _. search rules
+returns-in_err-feed-clause-cause g c = grind (arith, exit-is, no_read_fault-fed, same_fault)

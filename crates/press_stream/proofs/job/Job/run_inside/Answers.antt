@@ -1,23 +1,15 @@
-use Rattle.std.proofs.Common.{◌≢◌, [], Err, refl, sym, ap, subst}
+use Rattle.std.proofs.Common.{Err, refl, sym, ap, subst, arith}
 use Rattle.press_stream.specs.Answers.{TakesOn}
-use Rattle.press_stream.specs.State.{JobState, job_state}
+use Rattle.press_stream.specs.State.{job_state}
 use Rattle.press_stream.specs.declared.fault.JobError.{JobError}
 use Rattle.press_stream.specs.declared.phase.Phase.TheVariants.{Failed}
-use Rattle.press_stream.proofs.Inside.{engine_inside, job_runs_on, job_stops_on}
+use Rattle.press_stream.proofs.Inside.{job_runs_on, job_stops_on}
 use Rattle.press_stream.proofs.job.Job.run_inside.Goals as goal
-
-pub run_inner-requires : goal.run_inner-requires
-run_inner-requires c = record {
-  running =
-      engine_inside c.self.inside.scanner c.self.inside.engine c.self.inside.phase
-      (subst (λ (job : JobState). job.bodies ≢ []) (sym c.self.view_is) c.requires);
-}
 
 pub returns-in-Ok : goal.returns-in-Ok
 returns-in-Ok c = record {
   takes =
-      job_runs_on c.self.inside.scanner c.self.inside.engine c.run_inner.new.self c.self.inside.phase c.args.self.now c.in-Ok.step c.self.view_is c.requires
-      c.in-Ok.ensures.runs;
+      grind (arith, job_runs_on c.self.inside.scanner c.self.inside.engine c.run_inner.new.self c.self.inside.phase c.args.self.now c.in-Ok.step c.self.view_is c.requires c.in-Ok.ensures.runs);
 }
 
 pub returns-in-Err : goal.returns-in-Err

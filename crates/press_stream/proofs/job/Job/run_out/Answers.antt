@@ -18,11 +18,6 @@ loop-self-init g c = record {
   has_fault_room = c.requires.has_fault_room;
 }
 
-pub step_on-requires-clause-running : goal.step_on-requires-clause-running
-step_on-requires-clause-running g c =
-    let goes = c.loop-self.invariant.goes in
-    CarriesOn-to c.args.self.now c.loop-self.self [] goes.went goes.is
-
 pub returns-in_err-step_on-clause-runs_out : goal.returns-in_err-step_on-clause-runs_out
 returns-in_err-step_on-clause-runs_out g c =
     let so_far = c.loop-self.invariant in

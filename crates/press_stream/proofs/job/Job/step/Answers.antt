@@ -1,4 +1,4 @@
-use Rattle.std.proofs.Common.{◌∙◌, [], Err, refl, ap}
+use Rattle.std.proofs.Common.{◌∙◌, Err, refl, ap}
 use Rattle.press_units.proofs.ExitLemmas.{exit-is}
 use Rattle.press_sink.specs.SinkLog.{logs}
 use Rattle.press_stream.specs.declared.fault.JobError.{JobError}
@@ -52,13 +52,3 @@ returns-in_ok-hand_over-in-Ran-clause-stands g c =
     let takes = Takes-sent c.args.self.now c.take_step.new.self c.reuse.new.self c.in-Ran.step c.deref.result.now c.args.tag _ _ (rw (c.in_ok-step.was, c.in-Ran.is) at c.take_step.ensures.takes)
     (c.reuse.ensures ∙ (rw c.in_ok-hand_over-in-Ran.was at hands.ensures.left)) c.deref.ensures.value (rw c.in_ok-hand_over-in-Ran.was at hands.ensures.hands) in
     stands_still c.args.self.now c.reuse.new.self _ takes.went c.take_step.ensures.ready takes.is
-
-pub returns-in-Hungry-clause-stands : goal.returns-in-Hungry-clause-stands
-returns-in-Hungry-clause-stands g c =
-    let takes = rw (c.in_ok-step.was, c.in-Hungry.is) at c.take_step.ensures.takes in
-    stands_still c.args.self.now c.take_step.new.self _ [] c.take_step.ensures.ready (takes.0, takes.1, refl)
-
-pub returns-in-Ended-clause-stands : goal.returns-in-Ended-clause-stands
-returns-in-Ended-clause-stands g c =
-    let takes = rw (c.in_ok-step.was, c.in-Ended.is) at c.take_step.ensures.takes in
-    stands_still c.args.self.now c.take_step.new.self _ [] c.take_step.ensures.ready (takes.0, takes.1, refl)

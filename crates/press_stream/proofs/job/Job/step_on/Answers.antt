@@ -1,7 +1,5 @@
-use Rattle.std.proofs.Common.{◌∙◌, [], Ok, Err, refl, ap}
+use Rattle.std.proofs.Common.{◌∙◌, Ok, Err, refl, ap}
 use Rattle.press_units.proofs.ExitLemmas.{exit-is}
-use Rattle.press_sink.specs.Sending.{Complete}
-use Rattle.press_sink.proofs.SendingLemmas.{Took-none}
 use Rattle.press_stream.specs.declared.fault.JobError.{JobError}
 use Rattle.press_stream.specs.declared.step.Step.TheVariants as answers
 use Rattle.press_stream.proofs.Carries.{same_fault, Takes-sent, Faults-taken, Faults-sent, wants-sent}
@@ -33,15 +31,3 @@ returns-in_ok-hand_over-in-Ran g c =
     HandsOut-on c.args.self.now on.0 c.reuse.new.self (Ok (answers.Ran c.in-Ran.taken.kind)) c.args.tag _ _ on.1 (λ e. absurd (cc))
     (Takes-sent on.0 c.take_on.new.self c.reuse.new.self c.in-Ran.taken c.deref.result.now c.args.tag _ _ on.2
     (c.reuse.ensures ∙ (rw c.in_ok-hand_over-in-Ran.was at hands.ensures.left)) c.deref.ensures.value (rw c.in_ok-hand_over-in-Ran.was at hands.ensures.hands))
-
-pub returns-in-Hungry : goal.returns-in-Hungry
-returns-in-Hungry g c =
-    let on = rw (c.in_ok-taken.was, c.in-Hungry.is) at c.take_on.ensures.takes in
-    HandsOut-on c.args.self.now on.0 c.take_on.new.self (Ok answers.Hungry) c.args.tag _ _ on.1 (λ e. absurd (cc))
-    (record { went = []; is = (on.2.0, on.2.1, refl); took = Took-none c.args.tag Complete _ refl refl })
-
-pub returns-in-Ended : goal.returns-in-Ended
-returns-in-Ended g c =
-    let on = rw (c.in_ok-taken.was, c.in-Ended.is) at c.take_on.ensures.takes in
-    HandsOut-on c.args.self.now on.0 c.take_on.new.self (Ok answers.Ended) c.args.tag _ _ on.1 (λ e. absurd (cc))
-    (record { went = []; is = (on.2.0, on.2.1, refl); took = Took-none c.args.tag Complete _ refl refl })
