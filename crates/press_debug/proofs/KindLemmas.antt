@@ -1,9 +1,10 @@
 -- Each item of a trace has one kind, and item k has step k.
-use Rattle.std.proofs.Common.{◌≡◌, ◌∙◌, ◌+◌, ℕ, List, [], ◌∷◌, ◌++◌, Some, Bool, true, false, cond, length, refl, sym, ap, subst, arith}
+use Rattle.std.proofs.Common.{◌≡◌, ◌∙◌, ◌+◌, ℕ, List, [], ◌∷◌, ◌++◌, Option, Some, None, Bool, true, false, cond, length, refl, sym, ap, subst, arith}
 use Rattle.press_cmd.specs.Kinds.{kind_of}
 use Rattle.press_cmd.specs.Token.{Token}
 use Rattle.press_cmd.specs.declared.variant.Kind.{Kind}
 use Rattle.press_table.specs.Counts.{counted}
+use Rattle.press_table.specs.declared.refusal.Refusal.{Refusal}
 use Rattle.press_engine.specs.declared.activation.Activation.{Activation}
 use Rattle.press_engine.specs.declared.machine.Machine.{Machine}
 use Rattle.press_engine.specs.declared.machine.Last.{Last}
@@ -11,7 +12,7 @@ use Rattle.press_engine.specs.declared.machine.Last.TheVariants as lasts
 use Rattle.press_engine.specs.declared.view.View.{View}
 use Rattle.press_engine.specs.Begun.{Begun, end_of, begun_only}
 use Rattle.press_engine.specs.Engine.{view_of}
-use Rattle.press_engine.specs.Machine.{StepResult, macro_levels, power_on}
+use Rattle.press_engine.specs.Machine.{StepResult, carried, macro_levels, power_on}
 use Rattle.press_engine.specs.Stack.{items_in}
 use Rattle.press_engine.specs.Steps.{CountFrom}
 use Rattle.press_engine.specs.Trace.{last_machine, with_end, trace_each, trace_at}
@@ -23,9 +24,10 @@ use Rattle.press_debug.specs.Steps.{DebuggerState, kind_taken}
 
 -- ---- kinds
 
-kind-last : (recorded : Bool) (kind : Kind) → (one : Kind) × (kind_taken (cond recorded (lasts.Recorded kind) (lasts.Ran kind)) ≡ one ∷ [])
-kind-last true kind = (kind, refl)
-kind-last false kind = (kind, refl)
+kind-last : (recorded : Bool) (kind : Kind) (refusal : Option Refusal) → (one : Kind) × (kind_taken (cond recorded (lasts.Recorded kind) (carried kind refusal)) ≡ one ∷ [])
+kind-last true kind refusal = (kind, refl)
+kind-last false kind None = (kind, refl)
+kind-last false kind (Some refusal) = (kind, refl)
 
 same-kind : (item : StepResult) (last : Last) → item.machine.last ≡ last → (kind : Kind) × (kind_taken last ≡ kind ∷ []) → HasKind item
 same-kind item last is (kind, one) = (kind, ap kind_taken is ∙ one)
@@ -56,7 +58,7 @@ abbrev Have : Taking → Begun → List StepResult → Type 0
 Have at begin items = HaveKinds items
 
 taken-kind : (at : Taking) (item : StepResult) → item.machine.last ≡ (now at).last → HasKind item
-taken-kind at item is = same-kind item (now at).last is (kind-last _ (kind_of at.command))
+taken-kind at item is = same-kind item (now at).last is (kind-last _ (kind_of at.command) _)
 
 body-have : (at : Taking) (item : StepResult) (activation : Activation) → StartsIn at item activation
     → ((one : Token) (machine : Machine) → Have (taking_in activation one machine) (begins_at (taking_in activation one machine)) (items_in activation one machine))

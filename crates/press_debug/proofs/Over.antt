@@ -4,12 +4,12 @@ use Rattle.std.proofs.lemmas.List.Elements.{All-nil, All-cons, All-append}
 use Rattle.std.specs.List.{All}
 use Rattle.press_engine.specs.declared.machine.Machine.{Machine}
 use Rattle.press_engine.specs.Machine.{StepResult}
-use Rattle.press_engine.specs.Trace.{last_machine}
 use Rattle.press_stream.specs.State.{IsOver}
 use Rattle.press_debug.specs.declared.stepper.Taken.{Taken}
 use Rattle.press_debug.specs.declared.stepper.Taken.TheVariants as answers
 use Rattle.press_debug.specs.Steps.{DebuggerState, Advances, TakesOne, TakesOver, IsOutside, IsDeeper, IsBack, RanOut}
 use Rattle.press_stream.proofs.Going.{same_some}
+use Rattle.press_stream.proofs.Items.{last-append}
 use Rattle.press_stream.proofs.ItemsLeft.{items_left, items_left-none}
 use Rattle.press_debug.proofs.Taking.{Advances-then, RanOut-then, fewer_left, at_machine}
 
@@ -25,14 +25,10 @@ Reaches old answers.Steps new = ReachesOne old new
 Reaches old answers.Nothing new = IsOver old.job × (new ≡ old)
 Reaches old answers.Fault new = RanOut old new
 
-last_of_more : (items : List StepResult) (item : StepResult) (machine : Machine) → last_machine machine (items ++ item ∷ []) ≡ item.machine
-last_of_more [] item machine = refl
-last_of_more (first ∷ items) item machine = last_of_more items item first.machine
-
 -- the machine now is that of the last item
 here_is : (old now : DebuggerState) (reaches : ReachesOne old now) → now.job.machine ≡ Some reaches.here.machine
 here_is old now reaches =
-    reaches.advances.ends ∙ ap (λ (machine : Machine). Some machine) (last_of_more reaches.passed reaches.here reaches.advances.from)
+    reaches.advances.ends ∙ ap (λ (machine : Machine). Some machine) (last-append reaches.passed (reaches.here ∷ []) reaches.advances.from)
 
 depth_before : (old now : DebuggerState) (reaches : ReachesOne old now) (depth : ℕ) → IfSome old.job.machine (λ machine. depth ≡ machine.depth) → depth ≡ reaches.advances.from.depth
 depth_before old now reaches depth shown = at_machine old.job.machine (λ machine. depth ≡ machine.depth) reaches.advances.from reaches.advances.starts shown

@@ -1,12 +1,7 @@
 -- Lookups in the table of breakpoints, and the last of a list.
-use Rattle.std.proofs.Common.{◌≡◌, ◌∙◌, ◌+◌, ◌-◌, ◌≤◌, ℕ, Bool, List, [], ◌++◌, length, length-append, drop, None, sym, ap, arith}
-use Rattle.std.proofs.lemmas.List.{drop-append-le, drop-drop, drop_all, length-drop, append-nil}
-use Rattle.std.specs.List.{position_from}
+use Rattle.std.proofs.Common.{◌≡◌, ◌∙◌, ◌+◌, ◌-◌, ◌≤◌, ℕ, List, [], ◌++◌, length, length-append, drop, sym, ap, arith}
+use Rattle.std.proofs.lemmas.List.{drop-append-le, drop-drop, length-drop, append-nil}
 use Rattle.circular_buffer.specs.Buffer.{keep_last}
-
--- behind the end there is none
-pub none-left : {X : Type 0} (p : X → Bool) (i : ℕ) (xs : List X) → length xs ≤ i → None ≡ position_from p i (drop i xs)
-none-left p i xs past = sym (ap (position_from p i) (drop_all i xs past))
 
 -- the last of a list of which the last were kept before
 pub keep_last-twice : {X : Type 0} (n : ℕ) (xs ys : List X) → keep_last n (keep_last n xs ++ ys) ≡ keep_last n (xs ++ ys)
@@ -21,9 +16,7 @@ keep_last-twice n xs ys =
 
 -- a short list is kept whole
 pub keep_last-all : {X : Type 0} (n : ℕ) (xs : List X) → length xs ≤ n → xs ≡ keep_last n (xs ++ [])
-keep_last-all n xs few =
-    let none : length xs - n ≡ 0 = omega (arith, few) in
-    sym (append-nil xs) ∙ ap (λ (k : ℕ). drop k (xs ++ [])) (sym (ap (λ (k : ℕ). k - n) (ap length (append-nil xs)) ∙ none))
+keep_last-all n xs few = grind (arith, append-nil)
 
 -- so many are kept at most
 pub keep_last-few : {X : Type 0} (n : ℕ) (xs : List X) → length (keep_last n xs) ≤ n

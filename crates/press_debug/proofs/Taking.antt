@@ -32,6 +32,7 @@ kind_once : (last : Last) (kind : Kind) → IsOfKind last kind → kind ∷ [] �
 kind_once lasts.Nothing kind is = absurd is
 kind_once (lasts.Ran one) kind is = ap (λ (k : Kind). k ∷ []) is
 kind_once (lasts.Recorded one) kind is = ap (λ (k : Kind). k ∷ []) is
+kind_once (lasts.Refused one refusal) kind is = ap (λ (k : Kind). k ∷ []) is
 
 pub Advances-one : LeftGoesOn → (old new : JobState) (item : StepResult) (kind : Kind) (recent last : List Kind) → Does old item kind new
     → last ≡ keep_last 64 (recent ++ kind ∷ [])
@@ -95,11 +96,6 @@ EndsOutside-after old new item kind did outside = λ items is.
     ap (λ (machine : Machine). (last_machine machine items).depth) same
     ∙ outside (item ∷ items) (left_before old new item kind [] items is did)
 
-pub EndsOutside-none : (job : JobState) → job.machine ≡ None → EndsOutside job
-EndsOutside-none job none = λ items is. absurd (some_not (sym none ∙ is.starts)) where
-  some_not : {X : Type 0} {x : X} → None ≡ Some x → ⊥
-  some_not e = cc
-
 pub outside_over : LeftGoesOn → (job : JobState) (machine : Machine) → EndsOutside job → IsOver job → job.machine ≡ Some machine → machine.depth ≡ 0
 outside_over law job machine outside over is =
     let some = LeftOf-some job machine is in
@@ -140,13 +136,10 @@ remains false job tells is_not = λ items is none. absurd (false≢true ((tells 
 
 -- ---- what is true of a job stays true
 
-ran_of : (old new : JobState) (answer : JobStep) (step : StepOutput) → answer ≡ steps.Ran step → TakesStep old (Ok answer) new → DoesStep old step new
-ran_of old new answer step is takes = subst (λ (one : JobStep). TakesStep old (Ok one) new) is takes
-
 pub IsSound-ran : (old new : JobState) (answer : JobStep) (step : StepOutput) (recent last : Buffer Kind) (failed : Bool) → IsSound old recent failed
     → answer ≡ steps.Ran step → TakesStep old (Ok answer) new → last ≡ buffer (keep_last recent.capacity (recent.items ++ step.kind ∷ [])) recent.capacity → IsSound new last failed
 IsSound-ran old new answer step recent last failed sound is takes kept =
-    let (machine, did) = ran_of old new answer step is takes in
+    let (machine, did) : DoesStep old step new = rw is at takes in
     let kinds = recent.items ++ step.kind ∷ [] in
     record {
       running = λ _. subst IsSome (sym did.ends) refl;
@@ -162,35 +155,22 @@ IsSound-ran old new answer step recent last failed sound is takes kept =
     none_some : {X : Type 0} {x : X} → None ≡ Some x → ⊥
     none_some e = cc
 
-pub IsSound-fault : (old new : JobState) (recent : Buffer Kind) (failed : Bool) → IsSound old recent failed → new.machine ≡ None → IsSound new recent true
-IsSound-fault old new recent failed sound none = record {
-  running = λ was_not. absurd (true≢false was_not);
-  lost = λ _. none;
-  ended = λ was_not. absurd (true≢false was_not);
-  outside = EndsOutside-none new none;
-  capacity = sound.capacity;
-  few = sound.few;
-}
-
 pub takes_one : LeftGoesOn → (old new : JobState) (answer : JobStep) (step : StepOutput) (recent last : Buffer Kind) (now : DebuggerState)
     → record { job = old; recent = recent.items } ≡ now → recent.capacity ≡ 64
     → answer ≡ steps.Ran step → TakesStep old (Ok answer) new → last ≡ buffer (keep_last recent.capacity (recent.items ++ step.kind ∷ [])) recent.capacity
     → (item : StepResult) × Advances now (item ∷ []) (record { job = new; recent = last.items })
 takes_one law old new answer step recent last now same capacity is takes kept =
-    let (machine, did) = ran_of old new answer step is takes in
+    let (machine, did) : DoesStep old step new = rw is at takes in
     let item : StepResult = record { machine = machine; outputs = all_outputs step.sent.items } in
     let kinds : last.items ≡ keep_last 64 (recent.items ++ step.kind ∷ []) = ap (λ (ring : Buffer Kind). ring.items) kept ∙ ap (λ (n : ℕ). keep_last n (recent.items ++ step.kind ∷ [])) capacity in
     (item, subst (λ (from : DebuggerState). Advances from (item ∷ []) (record { job = new; recent = last.items })) same (Advances-one law old new item step.kind recent.items last.items did kinds))
 
 -- ---- where a step found nothing
 
-ended_of : (old new : JobState) (answer : JobStep) → answer ≡ steps.Ended → TakesStep old (Ok answer) new → IsOver old × (new ≡ old)
-ended_of old new answer is takes = subst (λ (one : JobStep). TakesStep old (Ok one) new) is takes
-
 pub takes_none : (old new : JobState) (answer : JobStep) (recent : Buffer Kind) (now : DebuggerState) → record { job = old; recent = recent.items } ≡ now → length recent.items ≤ 64
     → answer ≡ steps.Ended → TakesStep old (Ok answer) new → Advances now [] (record { job = new; recent = recent.items })
 takes_none old new answer recent now same few is takes =
-    let (over, kept) = ended_of old new answer is takes in
+    let (over, kept) : IsOver old × (new ≡ old) = rw is at takes in
     let standing : DebuggerState = record { job = old; recent = recent.items } in
     let none : Advances standing [] standing = Advances-nothing standing few over in
     let stays : Advances standing [] (record { job = new; recent = recent.items }) = subst (λ (job : JobState). Advances standing [] (record { job = job; recent = recent.items })) (sym kept) none in
@@ -198,7 +178,7 @@ takes_none old new answer recent now same few is takes =
 
 pub outside_none : LeftGoesOn → (old new : JobState) (answer : JobStep) → EndsOutside old → answer ≡ steps.Ended → TakesStep old (Ok answer) new → IsOutside new
 outside_none law old new answer outside is takes =
-    let (over, kept) = ended_of old new answer is takes in
+    let (over, kept) : IsOver old × (new ≡ old) = rw is at takes in
     subst IsOutside (sym kept) (IsOutside-over law old outside over)
 
 -- ---- facts of a machine that is there

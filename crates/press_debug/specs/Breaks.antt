@@ -36,9 +36,10 @@ same_kind kinds.PjlLine kinds.PjlLine = true
 same_kind (kinds.Foreign one) (kinds.Foreign other) = one == other
 same_kind one other = false
 
--- whether the last step carried out a command of a kind
+-- whether the last step took a command of a kind, and did not record it
 abbrev pub is_ran : Kind → Last → Bool
 is_ran kind (lasts.Ran last) = same_kind last kind
+is_ran kind (lasts.Refused last refusal) = same_kind last kind
 is_ran kind (lasts.Recorded last) = false
 is_ran kind lasts.Nothing = false
 

@@ -39,6 +39,7 @@ most_recent = 64
 abbrev pub kind_taken : Last → List Kind
 kind_taken (lasts.Ran kind) = kind ∷ []
 kind_taken (lasts.Recorded kind) = kind ∷ []
+kind_taken (lasts.Refused kind refusal) = kind ∷ []
 kind_taken lasts.Nothing = []
 
 -- the kinds of the commands that these items took, one after another

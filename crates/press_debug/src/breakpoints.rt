@@ -13,7 +13,7 @@ pub const MOST_BREAKS: usize = 32;
 /// Where to stop.
 #[derive(Clone, Copy, Debug, PartialEq, Eq)]
 pub enum Break {
-    /// Where the last step carried out a command of this kind. A recorded command is none.
+    /// Where the last step took a command of this kind, and did not record it.
     Kind(Kind),
     /// Behind so many steps.
     Step(u64),
@@ -37,7 +37,7 @@ impl Break {
     {
         match self {
             Break::Kind(kind) => match view.last {
-                Last::Ran(last) => is_same_kind(last, kind),
+                Last::Ran(last) | Last::Refused(last, _) => is_same_kind(last, kind),
                 _ => false,
             },
             Break::Step(step) => view.step == step,

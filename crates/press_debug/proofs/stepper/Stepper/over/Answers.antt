@@ -1,6 +1,5 @@
 use Rattle.std.proofs.Common.{◌≡◌, ◌∙◌, ap}
 use Rattle.press_debug.proofs.Over.{begins, goes_further, ends_back, fewer_steps}
-use Rattle.press_debug.proofs.Refusals.{lost-over}
 use Rattle.press_debug.specs.Steps.{DebuggerState}
 use Rattle.press_debug.specs.declared.stepper.Taken.{Taken}
 use Rattle.press_debug.specs.declared.stepper.Taken.TheVariants as answers
@@ -39,12 +38,3 @@ pub returns-clause-takes : goal.returns-clause-takes
 returns-clause-takes c =
     ends_back c.args.self.now c.loop-taken.self c.loop-taken.taken c.depth-depth.result c.loop-taken.invariant.reaches c.loop-taken.invariant.before
     (c.is_deeper.ensures.back c.loop-taken-test.false)
-
-pub returns-clause-lost : goal.returns-clause-lost
-returns-clause-lost c =
-    lost-over c.args.self.now c.loop-taken.self c.loop-taken.taken
-    (ends_back c.args.self.now c.loop-taken.self c.loop-taken.taken c.depth-depth.result c.loop-taken.invariant.reaches c.loop-taken.invariant.before
-    (c.is_deeper.ensures.back c.loop-taken-test.false))
-
-pub returns-clause-failed : goal.returns-clause-failed
-returns-clause-failed c = λ none. (c.loop-taken.invariant.failed none).1
