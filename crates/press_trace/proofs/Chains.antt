@@ -1,5 +1,5 @@
 -- Steps that do no more than count, taken at once: they are steps one behind the other.
-use Rattle.std.proofs.Common.{◌≡◌, ◌∙◌, ◌+◌, ◌-◌, ◌≤◌, ℕ, zero, suc, List, [], ◌∷◌, ◌++◌, length, Some, IsSome, false, inl, inr, refl, sym, ap, subst, arith}
+use Rattle.std.proofs.Common.{◌≡◌, ◌∙◌, ◌+◌, ◌-◌, ◌≤◌, ℕ, suc, List, [], ◌∷◌, ◌++◌, length, Some, IsSome, false, inl, inr, refl, sym, ap, subst, arith}
 use Rattle.std.proofs.lemmas.List.{append_assoc, append-nil}
 use Rattle.std.specs.List.{AllByRecursion}
 use Rattle.press_cmd.specs.Kinds.{kind_of}
@@ -12,10 +12,10 @@ use Rattle.press_engine.specs.declared.activation.Activation.{Activation}
 use Rattle.press_engine.specs.declared.machine.Machine.{Machine}
 use Rattle.press_engine.specs.Machine.{silent}
 use Rattle.press_engine.specs.Passing.{passed}
+use Rattle.press_engine.proofs.PassingLaws.{one-passed}
 use Rattle.press_stream.specs.Meaning.{left}
 use Rattle.press_stream.specs.State.{JobState}
 use Rattle.press_stream.specs.Steps.{PassesOrStays, PassesRun, passed_each}
-use Rattle.press_stream.proofs.Uneffective.{one-passed}
 use Rattle.press_stream.proofs.Items.{left-one}
 use Rattle.press_stream.proofs.ItemsLeft.{items_left}
 use Rattle.press_trace.specs.declared.place.Place.{Place}
@@ -66,8 +66,7 @@ state-stays (command ∷ given) machine = state-stays given (passed 1 (kind_of c
 
 -- some were taken
 pub some_run : (old : JobState) (count : ℕ) (new : JobState) → (count ≡ 0 → ⊥) → PassesOrStays old count new → (more : ℕ) × (count ≡ suc more) × PassesRun old (suc more) new
-some_run old zero new some passes = absurd (some refl)
-some_run old (suc more) new some passes = (more, refl, passes)
+some_run old count new some passes = grind arith
 
 -- ---- the steps of a run, which end at a tracer that told something
 
@@ -115,8 +114,7 @@ module _ (final : Tracer) (some : IsSome final.before) where
 
   pub items-count : (given : List Token) (held new : ScannerState) (each : PassesEach held given new) (machine : Machine) → OnlyCount machine (items_over given held new each machine)
   items-count [] held new is machine = tt
-  items-count (command ∷ given) held new (next, passes, others) machine =
-      ((kind_of command, refl), items-count given next new others (passed 1 (kind_of command) machine))
+  items-count (command ∷ given) held new (next, passes, others) machine = grind (arith, items-count given next new others (passed 1 (kind_of command) machine))
 
   pub items-length : (given : List Token) (held new : ScannerState) (each : PassesEach held given new) (machine : Machine) → length (items_over given held new each machine) ≡ length given
   items-length [] held new is machine = refl
@@ -127,7 +125,7 @@ module _ (final : Tracer) (some : IsSome final.before) where
       → first.run ≡ silent machine → (last_behind first (items_over given held new each machine)).run ≡ silent (passed_each given machine)
   last-run [] held new is machine first run = run
   last-run (command ∷ given) held new (next, passes, others) machine first run =
-      last-run given next new others (passed 1 (kind_of command) machine) (passed_item command held next machine) refl
+      grind (arith, last-run given next new others (passed 1 (kind_of command) machine) (passed_item command held next machine) refl)
 
   pub last-end : (given : List Token) (held new : ScannerState) (each : PassesEach held given new) (machine : Machine) (first : Placed)
       → length held.bytes ≤ final.length → first.place.at + first.place.bytes ≡ final.length - length held.bytes
@@ -179,5 +177,4 @@ module _ (final : Tracer) (some : IsSome final.before) where
 
   pub stands_at_end : (bytes : List ℕ) (placed : List Placed) (held : ScannerState) (machine : Machine) (place : Place) → final.job ≡ job_at held machine
       → TracerStandsBehind bytes placed (at held machine place) → TracerStandsBehind bytes placed final
-  stands_at_end bytes placed held machine place same behind =
-      subst (λ (job : JobState). TracerStandsBehind bytes placed (record final { job = job })) (sym same) (other_place bytes placed held machine place final.place behind)
+  stands_at_end bytes placed held machine place same behind = grind (arith, other_place)

@@ -1,5 +1,5 @@
 -- The members of a line in the order of their keys.
-use Rattle.std.proofs.Common.{◌≡◌, ◌∙◌, ℕ, List, [], ◌∷◌, ◌++◌, false, Option, None, Some, codes, refl, sym, ap, append_assoc}
+use Rattle.std.proofs.Common.{◌≡◌, ◌∙◌, ℕ, List, [], ◌∷◌, ◌++◌, false, Option, Some, None, codes, sym, ap, append_assoc, arith}
 use Rattle.serde_json.specs.Data.{Data, number, unsigned, object, no_members, put}
 use Rattle.serde_json.specs.Find.{of_integer}
 use Rattle.serde_json.specs.Written.{compact_text}
@@ -8,15 +8,15 @@ use Rattle.press_bits.specs.declared.region.Region.{Region}
 use Rattle.press_engine.specs.declared.view.View.{View}
 use Rattle.press_trace.specs.declared.place.Place.{Place}
 use Rattle.press_trace.specs.LineSlots.{begin_slots, page_slots, went_slots, end_slots, run_slots}
-use Rattle.press_trace.specs.Lines.{last_told, recorded_told, delivered_told, reply_told, steps_told, view_object, run_members}
+use Rattle.press_trace.specs.Lines.{last_told, recorded_told, refused_told, delivered_told, reply_told, steps_told, view_object, run_members}
 use Rattle.press_trace.specs.Pages.{patch_data, patch_slots}
 use Rattle.press_trace.specs.Seen.{put_some}
 use Rattle.press_trace.specs.Slots.{members_of, member_text, texts_behind, texts_of}
-use Rattle.press_trace.proofs.SlotLemmas.{put_at, object_text, texts_joined, texts_true}
+use Rattle.press_trace.proofs.SlotLemmas.{object_text, texts_joined, texts_true}
 
 -- all members that a line may have, each there or not
-abbrev slots : (at bytes delivered depth last opened page recorded reply sheets step steps view x y : Option Data) → List (List ℕ × Option Data)
-slots at bytes delivered depth last opened page recorded reply sheets step steps view x y =
+abbrev slots : (at bytes delivered depth last opened page recorded refused reply sheets step steps view x y : Option Data) → List (List ℕ × Option Data)
+slots at bytes delivered depth last opened page recorded refused reply sheets step steps view x y =
     (codes "at", at)
     ∷ (codes "bytes", bytes)
     ∷ (codes "delivered", delivered)
@@ -25,6 +25,7 @@ slots at bytes delivered depth last opened page recorded reply sheets step steps
     ∷ (codes "opened", opened)
     ∷ (codes "page", page)
     ∷ (codes "recorded", recorded)
+    ∷ (codes "refused", refused)
     ∷ (codes "reply", reply)
     ∷ (codes "sheets", sheets)
     ∷ (codes "step", step)
@@ -34,26 +35,17 @@ slots at bytes delivered depth last opened page recorded reply sheets step steps
     ∷ (codes "y", y) ∷ []
 
 -- Put in any order, they stand in that of their keys.
-pub members_are : (a b depth sheets step x y : Data) (delivered last opened page recorded reply view steps : Option Data)
-    → put_some (codes "steps") steps (put_some (codes "view") view (put_some (codes "reply") reply (put_some (codes "recorded") recorded (put_some (codes "page") page (put_some (codes "opened") opened (put_some (codes "last") last (put_some (codes "delivered") delivered (put (codes "y") y (put (codes "x") x (put (codes "step") step (put (codes "sheets") sheets (put (codes "depth") depth (put (codes "bytes") b (put (codes "at") a (no_members)))))))))))))))
-    ≡ members_of (slots (Some a) (Some b) delivered (Some depth) last opened page recorded reply (Some sheets) (Some step) steps view (Some x) (Some y))
-members_are a b depth sheets step x y delivered last opened page recorded reply view steps =
-    let e1 = put_at 0 (codes "at") (Some a) (slots None None None None None None None None None None None None None None None) refl refl in
-    let e2 = ap (put_some (codes "bytes") (Some b)) e1 ∙ put_at 1 (codes "bytes") (Some b) (slots (Some a) None None None None None None None None None None None None None None) refl refl in
-    let e3 = ap (put_some (codes "depth") (Some depth)) e2 ∙ put_at 3 (codes "depth") (Some depth) (slots (Some a) (Some b) None None None None None None None None None None None None None) refl refl in
-    let e4 = ap (put_some (codes "sheets") (Some sheets)) e3 ∙ put_at 9 (codes "sheets") (Some sheets) (slots (Some a) (Some b) None (Some depth) None None None None None None None None None None None) refl refl in
-    let e5 = ap (put_some (codes "step") (Some step)) e4 ∙ put_at 10 (codes "step") (Some step) (slots (Some a) (Some b) None (Some depth) None None None None None (Some sheets) None None None None None) refl refl in
-    let e6 = ap (put_some (codes "x") (Some x)) e5 ∙ put_at 13 (codes "x") (Some x) (slots (Some a) (Some b) None (Some depth) None None None None None (Some sheets) (Some step) None None None None) refl refl in
-    let e7 = ap (put_some (codes "y") (Some y)) e6 ∙ put_at 14 (codes "y") (Some y) (slots (Some a) (Some b) None (Some depth) None None None None None (Some sheets) (Some step) None None (Some x) None) refl refl in
-    let e8 = ap (put_some (codes "delivered") delivered) e7 ∙ put_at 2 (codes "delivered") delivered (slots (Some a) (Some b) None (Some depth) None None None None None (Some sheets) (Some step) None None (Some x) (Some y)) refl refl in
-    let e9 = ap (put_some (codes "last") last) e8 ∙ put_at 4 (codes "last") last (slots (Some a) (Some b) delivered (Some depth) None None None None None (Some sheets) (Some step) None None (Some x) (Some y)) refl refl in
-    let e10 = ap (put_some (codes "opened") opened) e9 ∙ put_at 5 (codes "opened") opened (slots (Some a) (Some b) delivered (Some depth) last None None None None (Some sheets) (Some step) None None (Some x) (Some y)) refl refl in
-    let e11 = ap (put_some (codes "page") page) e10 ∙ put_at 6 (codes "page") page (slots (Some a) (Some b) delivered (Some depth) last opened None None None (Some sheets) (Some step) None None (Some x) (Some y)) refl refl in
-    let e12 = ap (put_some (codes "recorded") recorded) e11 ∙ put_at 7 (codes "recorded") recorded (slots (Some a) (Some b) delivered (Some depth) last opened page None None (Some sheets) (Some step) None None (Some x) (Some y)) refl refl in
-    let e13 = ap (put_some (codes "reply") reply) e12 ∙ put_at 8 (codes "reply") reply (slots (Some a) (Some b) delivered (Some depth) last opened page recorded None (Some sheets) (Some step) None None (Some x) (Some y)) refl refl in
-    let e14 = ap (put_some (codes "view") view) e13 ∙ put_at 12 (codes "view") view (slots (Some a) (Some b) delivered (Some depth) last opened page recorded reply (Some sheets) (Some step) None None (Some x) (Some y)) refl refl in
-    let e15 = ap (put_some (codes "steps") steps) e14 ∙ put_at 11 (codes "steps") steps (slots (Some a) (Some b) delivered (Some depth) last opened page recorded reply (Some sheets) (Some step) None view (Some x) (Some y)) refl refl in
-    e15
+pub members_are : (a b depth sheets step x y : Data) (delivered last opened page recorded refused reply view steps : Option Data)
+    → put_some (codes "steps") steps (put_some (codes "view") view (put_some (codes "reply") reply (put_some (codes "refused") refused (put_some (codes "recorded") recorded (put_some (codes "page") page (put_some (codes "opened") opened (put_some (codes "last") last (put_some (codes "delivered") delivered (put (codes "y") y (put (codes "x") x (put (codes "step") step (put (codes "sheets") sheets (put (codes "depth") depth (put (codes "bytes") b (put (codes "at") a (no_members))))))))))))))))
+    ≡ members_of (slots (Some a) (Some b) delivered (Some depth) last opened page recorded refused reply (Some sheets) (Some step) steps view (Some x) (Some y))
+members_are a b depth sheets step x y delivered last opened page None None None view steps = grind arith
+members_are a b depth sheets step x y delivered last opened page None None (Some reply) view steps = grind arith
+members_are a b depth sheets step x y delivered last opened page None (Some refused) None view steps = grind arith
+members_are a b depth sheets step x y delivered last opened page None (Some refused) (Some reply) view steps = grind arith
+members_are a b depth sheets step x y delivered last opened page (Some recorded) None None view steps = grind arith
+members_are a b depth sheets step x y delivered last opened page (Some recorded) None (Some reply) view steps = grind arith
+members_are a b depth sheets step x y delivered last opened page (Some recorded) (Some refused) None view steps = grind arith
+members_are a b depth sheets step x y delivered last opened page (Some recorded) (Some refused) (Some reply) view steps = grind arith
 
 -- ---- the text of a line by its first member and its four parts
 
@@ -76,7 +68,7 @@ run_text steps place sheets replies before now opened page =
     sym (
     ap (λ members. compact_text (object members)) (
     members_are (number (unsigned place.at)) (number (unsigned place.bytes)) (number (unsigned now.depth)) (number (unsigned now.sheets)) (number (unsigned now.step))
-    (number (of_integer now.x.0)) (number (of_integer now.y.0)) (delivered_told sheets) (last_told now.last) opened page (recorded_told now.last) (reply_told replies)
+    (number (of_integer now.x.0)) (number (of_integer now.y.0)) (delivered_told sheets) (last_told now.last) opened page (recorded_told now.last) (refused_told now.last) (reply_told replies)
     (view_object before now) (steps_told steps)
     )
     ∙ object_text (run_slots steps place sheets replies before now opened page)

@@ -1,5 +1,5 @@
 -- Pieces of a stream, and the items of its trace with their places.
-use Rattle.std.proofs.Common.{◌≡◌, ◌∙◌, ◌+◌, ℕ, List, [], ◌∷◌, ◌++◌, length, refl, sym, ap, subst, inl, arith}
+use Rattle.std.proofs.Common.{◌≡◌, ◌∙◌, ◌+◌, ℕ, List, [], ◌∷◌, ◌++◌, length, refl, ap, arith}
 use Rattle.std.proofs.lemmas.List.{append_assoc, append-nil, map-append, length-append}
 use Rattle.press_cmd.specs.ParserState.{ParserState}
 use Rattle.press_cmd.specs.Grammar.{Head}
@@ -23,72 +23,52 @@ pub prefix-then : (from : ParserState) (bytes : List ℕ) (pieces : List Piece) 
     (left : List ℕ) (next : ParserState)
     → ArePrefix from bytes pieces mode held → held ≡ piece.bytes ++ left → Opens mode piece left next
     → ArePrefix from bytes (pieces ++ piece ∷ []) next left
-prefix-then from bytes [] mode held piece left next (same, are) cut opens =
-    let P : ParserState → Type 0 = λ m. Opens m piece left next in
-    (left, next, are ∙ cut, subst P (sym same) opens, (refl, refl))
+prefix-then from bytes [] mode held piece left next (same, are) cut opens = grind arith
 prefix-then from bytes (first ∷ pieces) mode held piece left next (behind, between, cut_first, opens_first, others) cut opens =
-    (behind, between, cut_first, opens_first, prefix-then between behind pieces mode held piece left next others cut opens)
+    grind (arith, prefix-then between behind pieces mode held piece left next others cut opens)
 
 -- ---- pieces that are whole, before the end
 
 pub whole-prefix : (from : ParserState) (bytes : List ℕ) (pieces : List Piece) (mode : ParserState) (left : List ℕ)
     → AreWhole from bytes pieces mode left → ArePrefix from bytes pieces mode left
 whole-prefix from bytes [] mode left are = are
-whole-prefix from bytes (piece ∷ pieces) mode left (behind, next, cut, head, others) =
-    (behind, next, cut, inl head, whole-prefix next behind pieces mode left others)
+whole-prefix from bytes (piece ∷ pieces) mode left (behind, next, cut, head, others) = grind (arith, whole-prefix next behind pieces mode left others)
 
 -- their commands are those of the split so far
 pub whole-steps : (from : ParserState) (bytes : List ℕ) (pieces : List Piece) (mode : ParserState) (left : List ℕ)
     → AreWhole from bytes pieces mode left → Steps from bytes (commands_of pieces) mode left
 whole-steps from bytes [] mode left are = are
-whole-steps from bytes (piece ∷ pieces) mode left (behind, next, cut, head, others) =
-    (piece.bytes, behind, next, cut, head, whole-steps next behind pieces mode left others)
+whole-steps from bytes (piece ∷ pieces) mode left (behind, next, cut, head, others) = grind (arith, whole-steps next behind pieces mode left others)
 
 -- whatever comes behind them
 pub whole-more : (from : ParserState) (bytes more : List ℕ) (pieces : List Piece) (mode : ParserState) (left : List ℕ)
     → AreWhole from bytes pieces mode left → AreWhole from (bytes ++ more) pieces mode (left ++ more)
 whole-more from bytes more [] mode left (same, are) = (same, ap (λ (all : List ℕ). all ++ more) are)
-whole-more from bytes more (piece ∷ pieces) mode left (behind, next, cut, head, others) = (
-  behind ++ more,
-  next,
-  ap (λ (all : List ℕ). all ++ more) cut ∙ append_assoc piece.bytes behind more,
-  head-more from piece.bytes behind more piece.command next head,
-  whole-more next behind more pieces mode left others,
-)
+whole-more from bytes more (piece ∷ pieces) mode left (behind, next, cut, head, others) =
+    grind (arith, append_assoc, head-more, whole-more next behind more pieces mode left others)
 
 pub whole-then : (from : ParserState) (bytes : List ℕ) (pieces : List Piece) (mode : ParserState) (held : List ℕ) (piece : Piece)
     (left : List ℕ) (next : ParserState)
     → AreWhole from bytes pieces mode held → held ≡ piece.bytes ++ left → Head mode piece.bytes left piece.command next
     → AreWhole from bytes (pieces ++ piece ∷ []) next left
-whole-then from bytes [] mode held piece left next (same, are) cut head =
-    let P : ParserState → Type 0 = λ m. Head m piece.bytes left piece.command next in
-    (left, next, are ∙ cut, subst P (sym same) head, (refl, refl))
+whole-then from bytes [] mode held piece left next (same, are) cut head = grind arith
 whole-then from bytes (first ∷ pieces) mode held piece left next (behind, between, cut_first, head_first, others) cut head =
-    (behind, between, cut_first, head_first, whole-then between behind pieces mode held piece left next others cut head)
+    grind (arith, whole-then between behind pieces mode held piece left next others cut head)
 
 -- the pieces and what is left are all the bytes
 pub prefix-length : (from : ParserState) (bytes : List ℕ) (pieces : List Piece) (mode : ParserState) (left : List ℕ)
     → ArePrefix from bytes pieces mode left → length bytes ≡ bytes_in pieces + length left
 prefix-length from bytes [] mode left (same, are) = omega (arith, ap length are)
 prefix-length from bytes (piece ∷ pieces) mode left (behind, next, cut, opens, others) =
-    let more = prefix-length next behind pieces mode left others in
-    omega (arith, ap length cut, length-append piece.bytes behind, more)
+    grind (arith, length-append, prefix-length next behind pieces mode left others)
 
 -- ---- the items of pieces, and of one more behind them
 
 pub placed-then : (at : ℕ) (pieces : List Piece) (piece : Piece) (machine : Machine) → placed_from at (pieces ++ piece ∷ []) machine
     ≡ placed_from at pieces machine ++ placed_at (from_on (at + bytes_in pieces) (length piece.bytes)) (trace_at macro_levels piece.command (machine_after pieces machine))
-placed-then at [] piece machine =
-    let here : at ≡ at + 0 = omega arith in
-    append-nil (placed_at (from_on at (length piece.bytes)) (trace_at macro_levels piece.command machine))
-    ∙ ap (λ place. placed_at (from_on place (length piece.bytes)) (trace_at macro_levels piece.command machine)) here
+placed-then at [] piece machine = grind (arith, append-nil)
 placed-then at (first ∷ pieces) piece machine =
-    let here = placed_at (from_on at (length first.bytes)) (trace_at macro_levels first.command machine) in
-    let next = machine_behind first.command machine in
-    let sum : at + length first.bytes + bytes_in pieces ≡ at + (length first.bytes + bytes_in pieces) = omega arith in
-    ap (λ (more : List Placed). here ++ more) (placed-then (at + length first.bytes) pieces piece next)
-    ∙ sym (append_assoc here (placed_from (at + length first.bytes) pieces next) _)
-    ∙ (λ i. (here ++ placed_from (at + length first.bytes) pieces next) ++ placed_at (from_on (sum i) (length piece.bytes)) (trace_at macro_levels piece.command (machine_after pieces next)))
+    grind (arith, append_assoc, placed-then (at + length first.bytes) pieces piece (machine_behind first.command machine))
 
 -- ---- without places
 
@@ -113,13 +93,7 @@ runs-from at (piece ∷ pieces) machine =
 pub last-from : (at : ℕ) (pieces : List Piece) (machine : Machine) → last_machine machine (runs_of (placed_from at pieces machine)) ≡ machine_after pieces machine
 last-from at [] machine = refl
 last-from at (piece ∷ pieces) machine =
-    let place = from_on at (length piece.bytes) in
-    let here = trace_at macro_levels piece.command machine in
-    let next = machine_behind piece.command machine in
-    let rest = placed_from (at + length piece.bytes) pieces next in
-    ap (last_machine machine) (runs-append (placed_at place here) rest ∙ ap (λ (more : List StepResult). more ++ runs_of rest) (runs-at place here))
-    ∙ last_machine-append here (runs_of rest) machine
-    ∙ last-from (at + length piece.bytes) pieces next
+    grind (arith, runs-append, runs-at, last_machine-append, last-from (at + length piece.bytes) pieces (machine_behind piece.command machine))
 
 pub commands-then : (pieces : List Piece) (piece : Piece) → commands_of (pieces ++ piece ∷ []) ≡ commands_of pieces ++ piece.command ∷ []
 commands-then pieces piece = map-append (λ (one : Piece). one.command) pieces (piece ∷ [])

@@ -1,45 +1,28 @@
 -- Pages rebuilt of what is told.
-use Rattle.std.proofs.Common.{◌≡◌, ◌∙◌, ◌+◌, ◌-◌, ◌*◌, ◌<◌, ◌≤◌, ◌⊎◌, ℕ, zero, suc, List, [], ◌∷◌, map, min, take, Option, None, Some, Bool, true, false, inl, inr, refl, sym, ap, subst, codes, arith}
-use Rattle.std.proofs.lemmas.Bool.{cases_lt}
+use Rattle.std.proofs.Common.{◌≡◌, ◌∙◌, ◌+◌, ◌-◌, ◌<◌, ℕ, List, [], ◌∷◌, take, Option, None, Some, inl, inr, refl, sym, ap, arith}
 use Rattle.std.proofs.lemmas.Simd.{map-map}
 use Rattle.std.proofs.lemmas.List.FromFn.{get_or-map-range_with_len}
-use Rattle.press_bits.specs.Lines.{bytes_per_line, IsPageLine}
-use Rattle.press_bits.specs.Mark.{row_dot}
-use Rattle.press_bits.specs.Page.{Page, HasNoDotOutside, black_at}
+use Rattle.press_bits.specs.Lines.{IsPageLine}
+use Rattle.press_bits.specs.Page.{Page, HasNoDotOutside}
 use Rattle.press_bits.specs.Patches.{RowsOf}
 use Rattle.press_bits.specs.declared.region.Region.{Region}
 use Rattle.press_bits.proofs.LineLemmas.{row_dot-past}
 use Rattle.press_bits.proofs.PatchLemmas.{rows_are_the_patch, patches_are_the_page}
 use Rattle.press_pbm.specs.Spelling.{line_bytes}
 use Rattle.press_pbm.proofs.ReadBack.{length-line_bytes, row_dot-line_bytes}
-use Rattle.std.specs.List.{range_with_len}
-use Rattle.hex.specs.Hex.{encode_upper}
-use Rattle.serde_json.specs.Data.{Data, number, unsigned, string, array, object, no_members, put}
-use Rattle.serde_json.specs.View.{items_of}
+use Rattle.serde_json.specs.Data.{Data}
 use Rattle.press_bits.specs.Page.{blank}
 use Rattle.press_bits.specs.Patches.{ChangedIn, laid_over}
 use Rattle.press_engine.specs.declared.machine.Machine.{Machine}
 use Rattle.press_trace.specs.Lines.{page_if}
-use Rattle.press_trace.specs.Pages.{row_in, rows_of, patch_data, size_data, IsPageTold, StartsFrom, Follows}
+use Rattle.press_trace.specs.Pages.{row_in, patch_data, size_data, IsPageTold, StartsFrom, Follows}
 use Rattle.press_trace.specs.Places.{Placed}
 use Rattle.press_trace.specs.Rebuilt.{RowsAreThePage, LinesRebuildThePages, PageStep, Stays, Closes, Lays, Opens, told_patch, patch_told, page_after, page_after_all, opened_member, page_member}
 use Rattle.press_trace.specs.Traced.{last_of}
 
 -- the bytes of a line are a line of the page
 line_is : (page : Page) (y : ℕ) → HasNoDotOutside page → IsPageLine page y (line_bytes page y)
-line_is page y none = record {
-  long = length-line_bytes page y;
-  dots = λ x right. row_dot-line_bytes page y x (omega (arith, right));
-  padding = λ x past. right_of x past (cases_lt x (8 * bytes_per_line page.width));
-}
-  where
-    white : {x : ℕ} (b : Bool) → (b ≡ true → (x < page.width) × (y < page.height)) → page.width ≤ x → b ≡ false
-    white true inside past = let here = inside refl in absurd (omega (arith, here.0, past))
-    white false inside past = refl
-
-    right_of : (x : ℕ) → page.width ≤ x → (x < 8 * bytes_per_line page.width) ⊎ (8 * bytes_per_line page.width ≤ x) → row_dot (line_bytes page y) x ≡ false
-    right_of x past (inl within) = row_dot-line_bytes page y x within ∙ white (black_at page x y) (none.inside x y) past
-    right_of x past (inr behind) = row_dot-past (line_bytes page y) x (omega (arith, length-line_bytes page y, behind))
+line_is page y none = grind (arith, length-line_bytes, row_dot-line_bytes, row_dot-past)
 
 told_rows : (page : Page) (region : Region) → HasNoDotOutside page → RowsOf page region (told_patch page region).rows
 told_rows page region none = record {
@@ -62,15 +45,7 @@ rows_are_the_page before after region changed none =
 
 -- the patch of a region is told as the region is
 told_as_patch : (page : Page) (region : Region) → patch_data page region ≡ patch_told page.width (told_patch page region)
-told_as_patch page region =
-    let rows : rows_of page region ≡ map (λ row. string (encode_upper row)) (told_patch page region).rows =
-    sym (map-map (λ row. string (encode_upper row)) (λ y. row_in region (line_bytes page y)) (range_with_len region.top (region.bottom - region.top))) in
-    ap (λ (all : List Data). object (
-    put (codes "y") (number (unsigned region.top))
-    (put (codes "x") (number (unsigned (8 * region.left)))
-    (put (codes "width") (number (unsigned (min (8 * region.right) page.width - 8 * region.left)))
-    (put (codes "rows") (array (items_of all))
-    (put (codes "height") (number (unsigned (region.bottom - region.top))) no_members)))))) rows
+told_as_patch page region = grind (arith, map-map)
 
 -- What is told of the open page is one step, which leads to the page after.
 record Leads (before after : Option Page) (opened told : Option Data) : Type 0 where
@@ -81,10 +56,7 @@ record Leads (before after : Option Page) (opened told : Option Data) : Type 0 w
 
 patch_leads : (before after : Page) (region : Region) → ChangedIn before after region → HasNoDotOutside after → (told : Option Data) → told ≡ Some (patch_data after region)
     → (told ≡ Some (patch_told before.width (told_patch after region))) × (laid_over before (told_patch after region) ≡ after)
-patch_leads before after region changed none told is = (
-  is ∙ ap (λ (said : Data). Some said) (told_as_patch after region ∙ ap (λ w. patch_told w (told_patch after region)) changed.differ.width),
-  rows_are_the_page before after region changed none,
-)
+patch_leads before after region changed none told is = grind (arith, told_as_patch, rows_are_the_page)
 
 -- on the page before
 follows_on : (from after : Page) (opened told : Option Data) → opened ≡ None → Follows from after told → Leads (Some from) (Some after) opened told
@@ -113,9 +85,7 @@ follows_white before from after opened told wide white is (inr (region, changed,
     }
 
 leads_open : (before : Option Page) (after : Page) (opened told : Option Data) → (from : Page) → StartsFrom before after from opened → Follows from after told → Leads before (Some after) opened told
-leads_open before after opened told from (wide, high, inl (same, none)) follows =
-    subst (λ (page : Option Page). Leads page (Some after) opened told) (sym same) (follows_on from after opened told none follows)
-leads_open before after opened told from (wide, high, inr (white, is)) follows = follows_white before from after opened told wide white is follows
+leads_open before after opened told from h1 follows = grind (arith, follows_on, follows_white)
 
 leads : (before after : Option Page) (opened told : Option Data) → IsPageTold before after opened told → Leads before after opened told
 leads None None opened told (none, nothing) = record { step = Stays; opened_is = none; told_is = nothing; leads = refl }
@@ -127,12 +97,10 @@ leads (Some before) (Some after) opened told (from, starts, follows) = leads_ope
 rebuilt_more : (before : Option Machine) (placed : Placed) (others : List Placed) (step : PageStep) (steps : List PageStep) → page_after (page_if before) step ≡ placed.run.machine.state.page
     → ((count : ℕ) → page_after_all placed.run.machine.state.page (take count steps) ≡ page_if (last_of (Some placed.run.machine) (take count others)))
     → (count : ℕ) → page_after_all (page_if before) (take count (step ∷ steps)) ≡ page_if (last_of before (take count (placed ∷ others)))
-rebuilt_more before placed others step steps one more zero = refl
-rebuilt_more before placed others step steps one more (suc count) = ap (λ (page : Option Page). page_after_all page (take count steps)) one ∙ more count
+rebuilt_more before placed others step steps one more count = grind arith
 
 no_lines : (before : Option Machine) (count : ℕ) → page_after_all (page_if before) (take count []) ≡ page_if (last_of before (take count []))
-no_lines before zero = refl
-no_lines before (suc count) = refl
+no_lines before count = grind arith
 
 pub lines_rebuild : LinesRebuildThePages
 lines_rebuild before [] text none = record { steps = []; say = none; pages = no_lines before }

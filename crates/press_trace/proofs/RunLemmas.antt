@@ -36,10 +36,9 @@ use Rattle.press_trace.proofs.Standing.{one_step}
 
 AreLines-then : (before : Option Machine) (placed : List Placed) (text : List ℕ) (one : Placed) (line : List ℕ)
     → AreLines before placed text → IsLine (last_of before placed) one line → AreLines before (placed ++ one ∷ []) (text ++ line)
-AreLines-then before [] text one line none is =
-    (line, [], is, refl, ap (λ (all : List ℕ). all ++ line) none ∙ sym (append-nil line))
+AreLines-then before [] text one line none is = grind (arith, append-nil)
 AreLines-then before (first ∷ placed) text one line (prefix, rest, here, others, cut) is =
-    (prefix, rest ++ line, here, AreLines-then (Some first.run.machine) placed rest one line others is, ap (λ (all : List ℕ). all ++ line) cut ∙ append_assoc prefix rest line)
+    grind (arith, append_assoc, AreLines-then (Some first.run.machine) placed rest one line others is)
 
 -- the machine behind runs
 abbrev behind_runs : Option Machine → List ItemRun → Option Machine
@@ -56,10 +55,7 @@ last_of-run first (next ∷ others) = last_of-run next others
 
 last_of-runs : (before : Option Machine) (runs : List ItemRun) → last_of before (items_in runs) ≡ behind_runs before runs
 last_of-runs before [] = refl
-last_of-runs before (run ∷ runs) =
-    last_of-append before (items_of run) (items_in runs)
-    ∙ ap (λ (now : Option Machine). last_of now (items_in runs)) (last_of-run run.first run.others)
-    ∙ last_of-runs (Some (last_behind run.first run.others).run.machine) runs
+last_of-runs before (run ∷ runs) = grind (arith, last_of-append, last_of-run, last_of-runs (Some (last_behind run.first run.others).run.machine) runs)
 
 items_in-then : (runs : List ItemRun) (run : ItemRun) → items_in (runs ++ run ∷ []) ≡ items_in runs ++ items_of run
 items_in-then [] run = append-nil (items_of run)
@@ -91,14 +87,11 @@ AreTold-then Run placed text next line (runs, are, lines) (run, is, line_is) = (
 -- ---- the line of a run
 
 one_through : (first : Placed) → through first first ≡ first
-one_through first =
-    let size : first.place.at + first.place.bytes - first.place.at ≡ first.place.bytes = omega arith in
-    (λ i. record { place = from_on first.place.at (size i); run = first.run })
+one_through first = grind arith
 
 is_run_line : (before : Option Machine) (first : Placed) (others : List Placed) (line : List ℕ) → OnlyCount (machine_if before) (first ∷ others)
     → IsLineOf (length (first ∷ others)) before (through first (last_behind first others)) line → IsRunLine before first others line
-is_run_line before first [] line counts is = subst (λ (one : Placed). IsLineOf 1 before one line) (one_through first) is
-is_run_line before first (next ∷ others) line counts is = (counts, is)
+is_run_line before first others line counts is = grind (arith, one_through)
 
 machine-of : (before : Option Machine) (placed : List Placed) → machine_if (last_of before placed) ≡ last_machine (machine_if before) (runs_of placed)
 machine-of before [] = refl
@@ -230,5 +223,4 @@ next_by Run old line new within (inl tells) = one_next old line new tells Run
 next_by Run old line new within (inr tells) = next_of_run old line new within tells
 
 pub none_by : (by : LineOf) (old new : Tracer) → TellsBy by old None new → IsIdle old.job × (new ≡ old)
-none_by Step old new tells = tells
-none_by Run old new tells = tells
+none_by by old new tells = grind arith

@@ -1,11 +1,10 @@
 -- Members that are put are those of a list, and their text is the list's.
-use Rattle.std.proofs.Common.{◌≡◌, ◌∙◌, ◌&&◌, Ordering, Less, Equal, Greater, ℕ, suc, List, [], ◌∷◌, ◌++◌, Bool, true, false, true≢false, take, drop, Option, None, Some, refl, sym, ap, append_assoc, append-nil}
+use Rattle.std.proofs.Common.{◌≡◌, ◌∙◌, ◌&&◌, Ordering, Less, Equal, Greater, ℕ, suc, List, [], ◌∷◌, ◌++◌, Bool, true, false, take, drop, Option, None, Some, refl, sym, ap, append_assoc, append-nil, arith}
 use Rattle.std.proofs.lemmas.Bool.{and_parts}
 use Rattle.std.specs.Cmp.Lexicographic.{slice_cmp}
 use Rattle.std.specs.Ordering.{nat_cmp, match_ordering}
-use Rattle.json.specs.Print.{quoted}
 use Rattle.serde_json.specs.Data.{Data, object, Members, member, put}
-use Rattle.serde_json.specs.Written.{comma_if, compact_text, members_text}
+use Rattle.serde_json.specs.Written.{compact_text, members_text}
 use Rattle.press_trace.specs.Seen.{put_some}
 use Rattle.press_trace.specs.Slots.{members_of, member_text, texts_behind, texts_of}
 
@@ -20,14 +19,7 @@ is_less Equal = false
 is_less Greater = false
 
 greater : (o : Ordering) → is_greater o ≡ true → o ≡ Greater
-greater Greater is = refl
-greater Less is = absurd (true≢false (sym is))
-greater Equal is = absurd (true≢false (sym is))
-
-less : (o : Ordering) → is_less o ≡ true → o ≡ Less
-less Less is = refl
-less Equal is = absurd (true≢false (sym is))
-less Greater is = absurd (true≢false (sym is))
+greater o is = grind arith
 
 -- all keys of these stand before this one, or behind it
 abbrev pub are_before : List ℕ → List (List ℕ × Option Data) → Bool
@@ -42,9 +34,7 @@ are_behind key (slot ∷ slots) = is_less (slice_cmp nat_cmp key slot.0) && are_
 put_front : (key : List ℕ) (value : Data) (slots : List (List ℕ × Option Data)) → are_behind key slots ≡ true → put key value (members_of slots) ≡ member key value (members_of slots)
 put_front key value [] behind = refl
 put_front key value ((k, None) ∷ slots) behind = put_front key value slots (and_parts (is_less (slice_cmp nat_cmp key k)) (are_behind key slots) behind).1
-put_front key value ((k, Some d) ∷ slots) behind =
-    ap (λ o. match_ordering o (member key value (member k d (members_of slots))) (member k value (members_of slots)) (member k d (put key value (members_of slots))))
-    (less (slice_cmp nat_cmp key k) (and_parts (is_less (slice_cmp nat_cmp key k)) (are_behind key slots) behind).0)
+put_front key value ((k, Some d) ∷ slots) behind = grind arith
 
 -- and takes the place of its slot
 put_slot : (key : List ℕ) (value : Data) (slots others : List (List ℕ × Option Data)) → are_before key slots ≡ true → are_behind key others ≡ true
@@ -61,8 +51,7 @@ put_slot key value ((k, Some d) ∷ slots) others before behind =
 -- the member of slot n of a list, if it is there
 pub put_at : (n : ℕ) (key : List ℕ) (value : Option Data) (all : List (List ℕ × Option Data)) → are_before key (take n all) ≡ true → are_behind key (drop (suc n) all) ≡ true
     → put_some key value (members_of (take n all ++ (key, None) ∷ drop (suc n) all)) ≡ members_of (take n all ++ (key, value) ∷ drop (suc n) all)
-put_at n key None all before behind = refl
-put_at n key (Some value) all before behind = put_slot key value (take n all) (drop (suc n) all) before behind
+put_at n key value all before behind = grind (arith, put_slot)
 
 -- ---- members that are put in the order of their keys
 
@@ -89,19 +78,14 @@ put_last (key, Some value) slots before = ap (put key value) (not_there key slot
 
 pub put_in_order : (slots others : List (List ℕ × Option Data)) → Ascend slots others → put_all others (members_of slots) ≡ members_of (slots ++ others)
 put_in_order slots [] ascend = ap members_of (sym (append-nil slots))
-put_in_order slots (slot ∷ others) ascend =
-    ap (put_all others) (put_last slot slots ascend.0)
-    ∙ put_in_order (slots ++ slot ∷ []) others ascend.1
-    ∙ ap members_of (append_assoc slots (slot ∷ []) others)
+put_in_order slots (slot ∷ others) ascend = grind (arith, put_last, append_assoc, put_in_order (slots ++ slot ∷ []) others ascend.1)
 
 -- ---- their text
 
 pub members_text_of : (later : Bool) (slots : List (List ℕ × Option Data)) → members_text later (members_of slots) ≡ texts_of later slots ++ 125 ∷ []
 members_text_of later [] = refl
 members_text_of later ((key, None) ∷ slots) = members_text_of later slots
-members_text_of later ((key, Some value) ∷ slots) =
-    ap (λ text. comma_if later ++ (quoted key ++ 58 ∷ (compact_text value ++ text))) (members_text_of true slots)
-    ∙ sym (simp append_assoc)
+members_text_of later ((key, Some value) ∷ slots) = grind (arith, append_assoc, members_text_of true slots)
 
 pub object_text : (slots : List (List ℕ × Option Data)) → compact_text (object (members_of slots)) ≡ 123 ∷ (texts_of false slots ++ 125 ∷ [])
 object_text slots = ap (λ text. 123 ∷ text) (members_text_of false slots)
@@ -114,5 +98,4 @@ texts_true ((key, Some value) ∷ slots) = ap (λ text. member_text true key (So
 
 pub texts_joined : (slots others : List (List ℕ × Option Data)) → texts_behind (slots ++ others) ≡ texts_behind slots ++ texts_behind others
 texts_joined [] others = refl
-texts_joined (slot ∷ slots) others =
-    ap (λ text. member_text true slot.0 slot.1 ++ text) (texts_joined slots others) ∙ sym (append_assoc (member_text true slot.0 slot.1) (texts_behind slots) (texts_behind others))
+texts_joined (slot ∷ slots) others = grind (arith, append_assoc, texts_joined slots others)

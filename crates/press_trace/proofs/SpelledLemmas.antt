@@ -1,17 +1,14 @@
 -- Texts in which no character is to be escaped.
 use Rattle.std.proofs.Common.{◌≡◌, ◌∙◌, ◌++◌, ℕ, List, [], ◌∷◌, Bool, true, false, cond, refl, ap, arith}
-use Rattle.std.specs.Prelude.{◌&&◌, nat_le}
 use Rattle.std.specs.List.{list_all}
-use Rattle.std.proofs.lemmas.Bool.{and_parts, ltb-true, ne_eqb}
+use Rattle.std.proofs.lemmas.Bool.{and_parts}
 use Rattle.press_trace.specs.Spelled.{escape_of, is_control, is_plain, spelled, spelled_byte}
 
 plain_byte : (byte : ℕ) → is_plain byte ≡ true → spelled_byte byte ≡ byte ∷ []
-plain_byte byte plain =
-    ap (λ (delete : Bool). cond delete (escape_of byte) (byte ∷ [])) (ne_eqb byte 127 (λ is. omega (arith, ltb-true byte 127 plain, is)))
+plain_byte byte plain = grind arith
 
 plain_first : (first second : ℕ) → is_plain first ≡ true → is_control first second ≡ false
-plain_first first second plain =
-    ap (λ (begins : Bool). begins && (nat_le 128 second && nat_le second 159)) (ne_eqb first 194 (λ is. omega (arith, ltb-true first 127 plain, is)))
+plain_first first second plain = grind arith
 
 -- bytes that stand for themselves are spelled as they are
 pub spelled_plain : (text : List ℕ) → list_all is_plain text ≡ true → spelled text ≡ text

@@ -17,8 +17,10 @@ use Rattle.press_engine.specs.declared.machine.Last.TheVariants as lasts
 use Rattle.press_engine.specs.declared.machine.Machine.{Machine}
 use Rattle.press_engine.specs.declared.view.View.{View}
 use Rattle.press_engine.specs.Engine.{IsOfKind, view_of}
-use Rattle.press_engine.specs.Machine.{StepResult, last_of, macro_levels}
+use Rattle.press_engine.specs.Machine.{StepResult, carried, last_of, macro_levels}
 use Rattle.press_table.specs.PageKept.{KeepsOtherLines, kind_may_change_page, kind_transfers_rows, most_dot_lines, row_line}
+use Rattle.press_table.specs.Refusals.{refusal_of}
+use Rattle.press_table.specs.declared.refusal.Refusal.{Refusal}
 use Rattle.press_table.specs.declared.state.State.{State}
 use Rattle.press_engine.specs.PageKept.{TakesFirst, OthersKeepThePage, RowsKeepOtherLines}
 use Rattle.press_engine.specs.Stack.{HasNext, continuation}
@@ -143,9 +145,11 @@ place_is old new item kind does false long place tells = by does.takes where
   by (inr (inl (command, is, idle, going, still, passes))) = absurd (false≢true (tells.1 idle))
   by (inr (inr (is, idle, going, out, held, ended, done))) = absurd (false≢true (tells.1 idle))
 
-kind_taken : (recorded : Bool) (command : Token) (kind : Kind) → IsOfKind (cond recorded (lasts.Recorded (kind_of command)) (lasts.Ran (kind_of command))) kind → kind ≡ kind_of command
-kind_taken true command kind is = is
-kind_taken false command kind is = is
+kind_taken : (recorded : Bool) (refusal : Option Refusal) (command : Token) (kind : Kind)
+    → IsOfKind (cond recorded (lasts.Recorded (kind_of command)) (carried (kind_of command) refusal)) kind → kind ≡ kind_of command
+kind_taken true refusal command kind is = is
+kind_taken false None command kind is = is
+kind_taken false (Some refusal) command kind is = is
 
 -- a command of the stream that has one item took it, and is of its kind
 first_of : OthersKeepThePage
@@ -155,7 +159,7 @@ first_of law old new item kind does command is idle =
     let owes : trace_at macro_levels command does.from ≡ item ∷ continuation new.bodies item.machine =
     sym (left-one command does.from) ∙ (λ i. left (sym is i) (sym idle i) does.from) ∙ does.are in
     let took : item.machine.last ≡ last_of command does.from.state = subst (TakesFirst (last_of command does.from.state)) owes (law.takes command does.from) in
-    (kind_taken (is_recorded command does.from.state) command kind (subst (λ (last : Last). IsOfKind last kind) took does.is_kind), owes)
+    (kind_taken (is_recorded command does.from.state) (refusal_of command does.from.state) command kind (subst (λ (last : Last). IsOfKind last kind) took does.is_kind), owes)
 
 -- a command of the stream of a kind that changes no page
 command_keeps : OthersKeepThePage

@@ -1,14 +1,12 @@
 -- Lines that are written one after another.
 use Rattle.std.proofs.Common.{◌≡◌, ◌∙◌, ◌≤◌, ◌<◌, ◌+◌, ◌*◌, ℕ, List, [], ◌++◌, Option, Err, length, false, inl, inr, refl, sym, ap, subst, arith}
-use Rattle.std.proofs.lemmas.List.{append-nil, length-append}
+use Rattle.std.proofs.lemmas.List.{length-append}
 use Rattle.std.specs.Io.KnownBytes.{Appends, Consumes, Keeps}
-use Rattle.std.proofs.KnownBytes.{Appends-kept, Appends-nil, Appends-trans, Consumes-kept, Consumes-nil, Consumes-trans}
+use Rattle.std.proofs.KnownBytes.{Appends-nil, Appends-trans, Consumes-kept, Consumes-nil, Consumes-trans}
 use Rattle.std.proofs.lemmas.Bool.{true≢false}
 use Rattle.press_devices.specs.Writing.{AppendsPrefix}
-use Rattle.press_cmd.specs.ParserState.{Exit}
-use Rattle.press_cmd.proofs.Splits.{no_head_of_nothing}
 use Rattle.press_stream.specs.Answers.{IsIdle}
-use Rattle.press_stream.specs.State.{IsOver, NeedsInput, input_ended, opened}
+use Rattle.press_stream.specs.State.{IsOver, NeedsInput, input_ended}
 use Rattle.press_trace.specs.declared.fault.TraceError.TheVariants.{ReadFault, Output, NoMemory}
 use Rattle.press_trace.specs.declared.tracer.Tracer.{Tracer}
 use Rattle.press_trace.specs.Traced.{TracedBy, Traces, TracesSoFar, StopsTellingBy, StopsTracing}
@@ -16,25 +14,13 @@ use Rattle.press_trace.specs.Standing.{Further, HasTold, TracerStandsBehind, Tel
 use Rattle.press_trace.specs.declared.fault.TraceError.{TraceError}
 use Rattle.press_trace.specs.Tracing.{IsAtStart, IsSound, with_more}
 use Rattle.press_trace.specs.declared.line_of.LineOf.{LineOf}
-use Rattle.press_trace.specs.declared.line_of.LineOf.TheVariants.{Step, Run}
 use Rattle.press_trace.specs.Runs.{AreTold}
 use Rattle.press_trace.proofs.RunLemmas.{AreTold-then, TellsNext}
 use Rattle.press_trace.proofs.Standing.{all_so_far, at_start, at_end, are_first, no_more, none_first, piece_more}
 
--- a job that was opened needs input
-hungry_at_first : NeedsInput opened
-hungry_at_first = record {
-  running = refl;
-  idle = refl;
-  going = refl;
-  short = no_head_of_nothing Exit;
-  few = omega arith;
-}
-
 -- nothing was told yet
 none_told : (by : LineOf) → AreTold by [] []
-none_told Step = refl
-none_told Run = ([], refl, refl)
+none_told by = grind arith
 
 -- memory ran out before the first step
 pub nothing_told : (by : LineOf) (bytes : List ℕ) (out : Option (List ℕ)) → StopsTracing by bytes out out NoMemory
@@ -70,32 +56,12 @@ module _ (by : LineOf) (bytes : List ℕ) (old now : Option (List ℕ)) (tracer 
       record { placed = told.placed; text = told.text; items = all.0; places = all.1; lines = told.lines; written = told.written }
 
   pub no_memory : StopsTracing by bytes old now NoMemory
-  no_memory = record {
-    placed = told.placed;
-    text = told.text;
-    between = now;
-    first = are_first bytes told.placed tracer told.behind;
-    lines = told.lines;
-    written = told.written;
-    stops = refl;
-  }
+  no_memory = search (arith, are_first)
 
   -- ---- a piece more, and the end
 
   pub piece_comes : (piece : List ℕ) → tracer.job.held.ended ≡ false → HasTold by (bytes ++ piece) old now (with_more piece tracer)
-  piece_comes piece going = record {
-    placed = told.placed;
-    text = told.text;
-    behind = piece_more bytes told.placed tracer told.behind piece going;
-    sound = record {
-      running = told.sound.running;
-      within = omega (arith, told.sound.within, length-append tracer.job.held.bytes piece);
-      shown = told.sound.shown;
-      kept = told.sound.kept;
-    };
-    lines = told.lines;
-    written = told.written;
-  }
+  piece_comes piece going = grind (arith, piece_more, length-append)
 
   pub end_comes : (new : Tracer) → new ≡ record tracer { job = input_ended tracer.job } → HasTold by bytes old now new
   end_comes new is = record {
@@ -167,18 +133,11 @@ module _ (by : LineOf) (before : Tracer) (was : Option (List ℕ)) (now : Tracer
 -- ---- what a reader gives
 
 pub none_read : (by : LineOf) (had out : Option (List ℕ)) (tracer : Tracer) → IsAtStart tracer → IsSound tracer → TellsRead by had had out out tracer
-none_read by had out tracer start sound = record {
-  bytes = [];
-  read = Consumes-nil had;
-  told = begun by out tracer start sound;
-  hungry = subst NeedsInput (sym start.job) hungry_at_first;
-}
+none_read by had out tracer start sound = grind (arith, begun)
 
 -- where memory ran out, or a line cannot be written, that is what was written
 stopped : (by : LineOf) (had left old new : Option (List ℕ)) (bytes : List ℕ) (why : TraceError) → Consumes had left bytes → StopsTracing by bytes old new why → StopsTellingBy by had left old new why
-stopped by had left old new bytes ReadFault read stops = absurd stops.stops
-stopped by had left old new bytes (Output error) read stops = inl (bytes, read, stops)
-stopped by had left old new bytes NoMemory read stops = (bytes, read, stops)
+stopped by had left old new bytes why read stops = grind arith
 
 pub not_begun : (by : LineOf) (had old : Option (List ℕ)) → StopsTellingBy by had had old old NoMemory
 not_begun by had old = ([], Consumes-nil had, nothing_told by [] old)
@@ -187,14 +146,6 @@ module _ (by : LineOf) (had left old now : Option (List ℕ)) (tracer : Tracer) 
   pub read_failed : (after : Option (List ℕ)) → Keeps left after → StopsTellingBy by had after old now ReadFault
   read_failed after kept =
       (so_far.bytes, Consumes-kept had left after so_far.bytes so_far.read kept, told_so_far by so_far.bytes old now tracer so_far.told so_far.hungry)
-
-  pub nothing_more : (after : Option (List ℕ)) → Consumes left after [] → TellsRead by had after old now tracer
-  nothing_more after none = record {
-    bytes = so_far.bytes;
-    read = subst (λ (all : List ℕ). Consumes had after all) (append-nil so_far.bytes) (Consumes-trans had left after so_far.bytes [] so_far.read none);
-    told = so_far.told;
-    hungry = so_far.hungry;
-  }
 
   module _ (after : Option (List ℕ)) (piece : List ℕ) (read : Consumes left after piece) where
     all_read : Consumes had after (so_far.bytes ++ piece)
@@ -254,19 +205,7 @@ module _ (by : LineOf) (had left old now : Option (List ℕ)) (tracer : Tracer) 
 -- ---- the flush behind it
 
 pub flushed : (by : LineOf) (had left old now after : Option (List ℕ)) → TracedBy by had left old now → Keeps now after → TracedBy by had left old after
-flushed by had left old now after (bytes, read, at_end, traces) kept = (
-  bytes,
-  read,
-  at_end,
-  record {
-    placed = traces.placed;
-    text = traces.text;
-    items = traces.items;
-    places = traces.places;
-    lines = traces.lines;
-    written = Appends-kept old now after traces.text traces.written kept;
-  },
-)
+flushed by had left old now after h1 kept = grind arith
 
 pub not_flushed : (by : LineOf) (had left old now after : Option (List ℕ)) (error : _) → TracedBy by had left old now → Keeps now after → StopsTellingBy by had left old after (Output error)
 not_flushed by had left old now after error traced kept = inr (flushed by had left old now after traced kept)

@@ -1,9 +1,8 @@
 -- Texts of JSON in which nothing is escaped.
-use Rattle.std.proofs.Common.{◌≡◌, ◌∙◌, ◌==◌, ◌<◌, ◌≤◌, ◌/◌, ◌%◌, ◌++◌, ℕ, suc, List, [], ◌∷◌, true, false, not, get_or, length, slice_index, refl, sym, ap, append_assoc, append-nil, add-one, arith, drop, ◌+◌, encode_utf8, true≢false, ◌⊎◌, inl, inr}
-use Rattle.std.specs.Prelude.{nat_lt, nat_le}
+use Rattle.std.proofs.Common.{◌≡◌, ◌∙◌, ◌==◌, ◌<◌, ◌≤◌, ◌/◌, ◌%◌, ◌++◌, ℕ, suc, List, [], ◌∷◌, true, not, get_or, length, slice_index, refl, sym, ap, append_assoc, append-nil, add-one, arith, drop, ◌+◌, encode_utf8, true≢false}
+use Rattle.std.specs.Prelude.{nat_lt}
 use Rattle.std.specs.List.{list_all}
-use Rattle.std.proofs.lemmas.Bool.{and_parts, ne_eqb, leb-true, ltb-true, le-ltb, eq-eqb, cases_Bool}
-use Rattle.std.proofs.lemmas.List.Folds.{list_all_at}
+use Rattle.std.proofs.lemmas.Bool.{and_parts, ltb-true, le-ltb, eq-eqb}
 use Rattle.std.proofs.Math.Seq.{drop-cons}
 use Rattle.std.proofs.lemmas.List.{drop_all}
 use Rattle.std.proofs.lemmas.Str.{encode_ascii}
@@ -19,27 +18,11 @@ record Unescaped (byte : ℕ) : Type 0 where
   quote : byte ≡ 34 → ⊥
   slash : byte ≡ 92 → ⊥
 
-differs : (byte n : ℕ) → not (byte == n) ≡ true → byte ≡ n → ⊥
-differs byte n other is = true≢false (sym other ∙ ap not (eq-eqb byte n is))
-
 is_so : (byte : ℕ) → is_unescaped byte ≡ true → Unescaped byte
-is_so byte plain =
-    let one = and_parts (nat_le 32 byte) _ plain in
-    let two = and_parts (nat_lt byte 127) _ one.1 in
-    let three = and_parts (not (byte == 34)) _ two.1 in
-    record { most = leb-true 32 byte one.0; least = ltb-true byte 127 two.0; quote = differs byte 34 three.0; slash = differs byte 92 three.1 }
+is_so byte plain = grind arith
 
 no_letter : (byte : ℕ) → Unescaped byte → escape_letter byte ≡ 0
-no_letter byte so =
-    rw (
-      ne_eqb byte 34 so.quote,
-      ne_eqb byte 92 so.slash,
-      ne_eqb byte 8 (λ is. omega (arith, so.most, is)),
-      ne_eqb byte 12 (λ is. omega (arith, so.most, is)),
-      ne_eqb byte 10 (λ is. omega (arith, so.most, is)),
-      ne_eqb byte 13 (λ is. omega (arith, so.most, is)),
-      ne_eqb byte 9 (λ is. omega (arith, so.most, is)),
-    ) refl
+no_letter byte so = grind arith
 
 escape_unescaped : (byte : ℕ) → Unescaped byte → escape_byte byte ≡ byte ∷ []
 unfolding escape_byte
@@ -62,10 +45,7 @@ quoted_unescaped bytes plain = ap (λ text. 34 ∷ (text ++ 34 ∷ [])) (escaped
 
 -- each digit does
 digit_unescaped : (n : ℕ) → n < 16 → is_unescaped (slice_index upper_digits n) ≡ true
-digit_unescaped n small = at (cases_Bool (is_unescaped (slice_index upper_digits n))) where
-  at : (is_unescaped (slice_index upper_digits n) ≡ true) ⊎ (is_unescaped (slice_index upper_digits n) ≡ false) → is_unescaped (slice_index upper_digits n) ≡ true
-  at (inl is) = is
-  at (inr other) = absurd (true≢false (list_all_at is_unescaped upper_digits n 0 small other))
+digit_unescaped n small = grind arith
 
 -- bytes in hexadecimal are spelled as they are
 pub quoted_digits : (bytes : List ℕ) → ((i : ℕ) → get_or bytes i 0 < 256) → quoted (encode_upper bytes) ≡ 34 ∷ (encode_upper bytes ++ 34 ∷ [])
@@ -121,31 +101,25 @@ pub both : {A : Type 0} (old one two a b : List A) → one ≡ old ++ a → two 
 both old one two a b first second = second ∙ ap (λ text. text ++ b) first ∙ append_assoc old a b
 
 pub all_three : {A : Type 0} (old one two three a b c : List A) → one ≡ old ++ a → two ≡ one ++ b → three ≡ two ++ c → three ≡ old ++ (a ++ (b ++ c))
-all_three old one two three a b c first second third =
-    both old one three a (b ++ c) first (both one two three b c second third)
+all_three old one two three a b c first second third = grind (arith, both)
 
 pub all_four : {A : Type 0} (old one two three four a b c d : List A) → one ≡ old ++ a → two ≡ one ++ b → three ≡ two ++ c → four ≡ three ++ d
     → four ≡ old ++ (a ++ (b ++ (c ++ d)))
-all_four old one two three four a b c d first second third fourth =
-    both old one four a (b ++ (c ++ d)) first (all_three one two three four b c d second third fourth)
+all_four old one two three four a b c d first second third fourth = grind (arith, both)
 
 pub all_five : {A : Type 0} (old one two three four five a b c d e : List A) → one ≡ old ++ a → two ≡ one ++ b → three ≡ two ++ c → four ≡ three ++ d → five ≡ four ++ e
     → five ≡ old ++ (a ++ (b ++ (c ++ (d ++ e))))
-all_five old one two three four five a b c d e first second third fourth fifth =
-    both old one five a (b ++ (c ++ (d ++ e))) first (all_four one two three four five b c d e second third fourth fifth)
+all_five old one two three four five a b c d e first second third fourth fifth = grind (arith, both)
 
 pub all_seven : {A : Type 0} (old one two three four five six seven a b c d e f g : List A) → one ≡ old ++ a → two ≡ one ++ b → three ≡ two ++ c → four ≡ three ++ d
     → five ≡ four ++ e → six ≡ five ++ f → seven ≡ six ++ g → seven ≡ old ++ (a ++ (b ++ (c ++ (d ++ (e ++ (f ++ g))))))
-all_seven old one two three four five six seven a b c d e f g p q r s t u v =
-    both old one seven a (b ++ (c ++ (d ++ (e ++ (f ++ g))))) p (both one two seven b (c ++ (d ++ (e ++ (f ++ g)))) q (all_five two three four five six seven c d e f g r s t u v))
+all_seven old one two three four five six seven a b c d e f g p q r s t u v = grind (arith, both)
 
 -- the same of lists that end with none
 pub all_four_ended : {A : Type 0} (old one two three four a b c d : List A) → one ≡ old ++ a → two ≡ one ++ b → three ≡ two ++ c → four ≡ three ++ d
     → four ≡ old ++ (a ++ (b ++ (c ++ (d ++ []))))
-all_four_ended old one two three four a b c d first second third fourth =
-    all_four old one two three four a b c d first second third fourth ∙ ap (λ last. old ++ (a ++ (b ++ (c ++ last)))) (sym (append-nil d))
+all_four_ended old one two three four a b c d first second third fourth = grind (arith, all_four, append-nil)
 
 pub all_five_ended : {A : Type 0} (old one two three four five a b c d e : List A) → one ≡ old ++ a → two ≡ one ++ b → three ≡ two ++ c → four ≡ three ++ d → five ≡ four ++ e
     → five ≡ old ++ (a ++ (b ++ (c ++ (d ++ (e ++ [])))))
-all_five_ended old one two three four five a b c d e first second third fourth fifth =
-    all_five old one two three four five a b c d e first second third fourth fifth ∙ ap (λ last. old ++ (a ++ (b ++ (c ++ (d ++ last))))) (sym (append-nil e))
+all_five_ended old one two three four five a b c d e first second third fourth fifth = grind (arith, all_five, append-nil)

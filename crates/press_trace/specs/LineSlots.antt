@@ -5,7 +5,7 @@ use Rattle.serde_json.specs.Find.{of_integer}
 use Rattle.press_units.specs.declared.position.Pos.{Pos}
 use Rattle.press_engine.specs.declared.view.View.{View}
 use Rattle.press_trace.specs.declared.place.Place.{Place}
-use Rattle.press_trace.specs.Lines.{last_told, recorded_told, delivered_told, reply_told, steps_told, view_object}
+use Rattle.press_trace.specs.Lines.{last_told, recorded_told, refused_told, delivered_told, reply_told, steps_told, view_object}
 
 abbrev pub begin_slots : Place → (sheets : ℕ) → (now : View) → List (List ℕ × Option Data)
 begin_slots place sheets now =
@@ -16,7 +16,8 @@ page_slots opened page = (codes "opened", opened) ∷ (codes "page", page) ∷ [
 
 abbrev pub went_slots : (replies : List ℕ) → (now : View) → List (List ℕ × Option Data)
 went_slots replies now =
-    (codes "recorded", recorded_told now.last) ∷ (codes "reply", reply_told replies) ∷ (codes "sheets", Some (number (unsigned now.sheets))) ∷ []
+    (codes "recorded", recorded_told now.last) ∷ (codes "refused", refused_told now.last) ∷ (codes "reply", reply_told replies)
+    ∷ (codes "sheets", Some (number (unsigned now.sheets))) ∷ []
 
 abbrev pub cursor_slots : (x y : Pos) → List (List ℕ × Option Data)
 cursor_slots x y = (codes "x", Some (number (of_integer x.0))) ∷ (codes "y", Some (number (of_integer y.0))) ∷ []

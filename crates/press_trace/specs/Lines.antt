@@ -16,17 +16,22 @@ use Rattle.press_trace.specs.Pages.{IsPageTold}
 use Rattle.press_trace.specs.Places.{Placed}
 use Rattle.press_trace.specs.Seen.{view_told, object_if, put_some}
 use Rattle.press_trace.specs.Spelled.{spelled}
-use Rattle.press_trace.specs.Texts.{kind_data, text_of}
+use Rattle.press_trace.specs.Texts.{kind_data, refusal_data, text_of}
 
--- the kind of the command that a step took, and whether it was recorded
+-- the kind of the command that a step took, whether it was recorded, and why it was refused, if it was
 abbrev pub last_told : Last → Option Data
 last_told lasts.Nothing = None
 last_told (lasts.Ran kind) = Some (kind_data kind)
 last_told (lasts.Recorded kind) = Some (kind_data kind)
+last_told (lasts.Refused kind refusal) = Some (kind_data kind)
 
 abbrev pub recorded_told : Last → Option Data
 recorded_told (lasts.Recorded kind) = Some (boolean true)
 recorded_told last = None
+
+abbrev pub refused_told : Last → Option Data
+refused_told (lasts.Refused kind refusal) = Some (refusal_data refusal)
+refused_told last = None
 
 -- how many sheets went out, if any did
 abbrev pub delivered_told : ℕ → Option Data
@@ -52,18 +57,19 @@ where_members place now members =
     (put (codes "bytes") (number (unsigned place.bytes))
     (put (codes "at") (number (unsigned place.at)) members))))))
 
--- And what it did: the sheets and replies that went out, the kind of its command, what changed of the open page and of what can
--- be seen.
+-- And what it did: the sheets and replies that went out, the kind of its command, why that was refused, what changed of the open page
+-- and of what can be seen.
 abbrev pub line_members :
     Place → (sheets : ℕ) → (replies : List ℕ) → (before : Option View) → (now : View) → (opened page : Option Data) → Members
 line_members place sheets replies before now opened page =
     put_some (codes "view") (view_object before now)
     (put_some (codes "reply") (reply_told replies)
+    (put_some (codes "refused") (refused_told now.last)
     (put_some (codes "recorded") (recorded_told now.last)
     (put_some (codes "page") page
     (put_some (codes "opened") opened
     (put_some (codes "last") (last_told now.last)
-    (put_some (codes "delivered") (delivered_told sheets) (where_members place now no_members)))))))
+    (put_some (codes "delivered") (delivered_told sheets) (where_members place now no_members))))))))
 
 -- How many steps a line tells, where they are more than one.
 abbrev pub steps_told : ℕ → Option Data

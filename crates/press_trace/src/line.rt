@@ -3,7 +3,7 @@
 ghost use Rattle.std.specs.Prelude.{◌≡◌, ◌++◌, Option, IfOk, OnOk, option_map, codes, true};
 ghost use Rattle.press_engine.specs.declared.view.View.{View};
 ghost use Rattle.press_trace.specs.LineSlots.{begin_slots, page_slots, went_slots, cursor_slots, end_slots};
-ghost use Rattle.press_trace.specs.Lines.{last_told, recorded_told, delivered_told, reply_told, steps_told, run_members, line_text};
+ghost use Rattle.press_trace.specs.Lines.{last_told, recorded_told, refused_told, delivered_told, reply_told, steps_told, run_members, line_text};
 ghost use Rattle.press_trace.specs.Pages.{opened_data, change_data, LiesIn};
 ghost use Rattle.press_trace.specs.Seen.{IsAlikeIf};
 ghost use Rattle.press_trace.specs.Slots.{member_text, texts_behind};
@@ -15,7 +15,7 @@ use crate::place::Place;
 use crate::seen::{Seen, append_view};
 use crate::sent::WentOut;
 use crate::spelled::spelled;
-use crate::text::append_kind;
+use crate::text::{append_kind, append_refusal};
 use press_canvas::Canvas;
 use press_cmd::LINE_FEED;
 use press_engine::{Last, View};
@@ -39,7 +39,7 @@ fn append_last(alloc: Global, last: Last, text: &mut Vec<u8>) -> Result<(), Allo
         ≡ text.old.items ++ member_text true (codes "last") (last_told last)) }
 {
     match last {
-        Last::Ran(kind) | Last::Recorded(kind) => {
+        Last::Ran(kind) | Last::Recorded(kind) | Last::Refused(kind, _) => {
             append_key(alloc, true, "last", text)?;
             append_kind(alloc, kind, text)
         }
@@ -56,6 +56,20 @@ fn append_recorded(alloc: Global, last: Last, text: &mut Vec<u8>) -> Result<(), 
         Last::Recorded(_) => {
             append_key(alloc, true, "recorded", text)?;
             append_flag(true, text)
+        }
+        _ => Ok(()),
+    }
+}
+
+/// Appends why it was refused, if it was.
+fn append_refused(alloc: Global, last: Last, text: &mut Vec<u8>) -> Result<(), AllocError>
+    ensures { OnOk result (text.new.items
+        ≡ text.old.items ++ member_text true (codes "refused") (refused_told last)) }
+{
+    match last {
+        Last::Refused(_, refusal) => {
+            append_key(alloc, true, "refused", text)?;
+            append_refusal(alloc, refusal, text)
         }
         _ => Ok(()),
     }
@@ -118,7 +132,7 @@ fn append_page(
     append_change(alloc, told.change, page, text)
 }
 
-/// Appends whether the command was recorded, what went out, and how many sheets did so far.
+/// Appends whether the command was recorded, why it was refused, what went out, and how many sheets did so far.
 fn append_went(
     alloc: Global,
     replies: &[u8],
@@ -129,6 +143,7 @@ fn append_went(
         ≡ text.old.items ++ texts_behind (went_slots replies.now now.now)) }
 {
     append_recorded(alloc, now.last, text)?;
+    append_refused(alloc, now.last, text)?;
     append_reply(alloc, replies, text)?;
     append_number_member(alloc, true, "sheets", now.sheets, text)
 }

@@ -1,9 +1,9 @@
-use Rattle.std.proofs.Common.{◌≡◌, ◌∙◌, ◌++◌, false, Option, sym, ap, append-nil, option_map, map}
+use Rattle.std.proofs.Common.{◌≡◌, ◌∙◌, ◌++◌, false, Option, sym, ap, append-nil, option_map, map, arith}
 use Rattle.std.specs.List.{list_any}
 use Rattle.press_engine.specs.declared.view.View.{View}
 use Rattle.press_trace.specs.Fields.{group_word}
 use Rattle.press_trace.specs.Seen.{is_told, tells_some, field_slot}
-use Rattle.press_trace.specs.Slots.{key_text, member_text, is_later, texts_of}
+use Rattle.press_trace.specs.Slots.{key_text, member_text, texts_of}
 use Rattle.press_trace.proofs.SeenLemmas.{fields_text, group_none, group_some}
 use Rattle.press_trace.proofs.TextLemmas.{all_four}
 use Rattle.press_trace.proofs.seen.append_group.Goals as goal
@@ -16,15 +16,10 @@ asked : (c : After-tells_some) → c.tells_some.result ≡ tells_some (earlier c
 asked c = c.tells_some.ensures ∙ ap (list_any (is_told (earlier c) c.args.now.now)) c.fields.ensures
 
 pub returns-then-not-tells_some-clause-text : goal.returns-then-not-tells_some-clause-text
-returns-then-not-tells_some-clause-text c =
-    let s = (goal.at.returns-then-not-tells_some-clause-text c).After-tells_some in
-    let none = group_none (earlier s) c.args.now.now c.args.group (sym (asked s) ∙ c.if-not-tells_some.true) in
-    sym (append-nil c.args.text.now.items) ∙ ap (λ told. c.args.text.now.items ++ member_text c.args.later (group_word c.args.group) told) (sym none)
+returns-then-not-tells_some-clause-text c = grind (arith, group_none, asked, append-nil)
 
 pub returns-then-not-tells_some-clause-behind : goal.returns-then-not-tells_some-clause-behind
-returns-then-not-tells_some-clause-behind c =
-    let s = (goal.at.returns-then-not-tells_some-clause-behind c).After-tells_some in
-    ap (is_later c.args.later) (sym (group_none (earlier s) c.args.now.now c.args.group (sym (asked s) ∙ c.if-not-tells_some.true)))
+returns-then-not-tells_some-clause-behind c = grind (arith, group_none, asked)
 
 pub returns-clause-text : goal.returns-clause-text
 returns-clause-text c =
@@ -38,6 +33,4 @@ returns-clause-text c =
     ∙ ap (λ told. old ++ member_text c.args.later (group_word c.args.group) told) (sym some)
 
 pub returns-clause-behind : goal.returns-clause-behind
-returns-clause-behind c =
-    let s = (goal.at.returns-clause-behind c).After-tells_some in
-    ap (is_later c.args.later) (sym (group_some (earlier s) c.args.now.now c.args.group (sym (asked s) ∙ c.if-not-tells_some.false)))
+returns-clause-behind c = grind (arith, group_some, asked)

@@ -1,13 +1,11 @@
-use Rattle.std.proofs.Common.{◌∙◌, ◌++◌, true, codes, sym, ap, append-nil, option_map}
+use Rattle.std.proofs.Common.{◌∙◌, ◌++◌, true, codes, sym, ap, append-nil, option_map, arith}
 use Rattle.press_trace.specs.Slots.{key_text, member_text}
 use Rattle.press_trace.proofs.SeenLemmas.{view_text, view_none, view_some}
 use Rattle.press_trace.proofs.TextLemmas.{all_four}
 use Rattle.press_trace.proofs.seen.append_view.Goals as goal
 
 pub returns-then-not-tells_some_group : goal.returns-then-not-tells_some_group
-returns-then-not-tells_some_group c =
-    let none = view_none (option_map (λ view. view.now) c.args.before) c.args.now.now (sym c.tells_some_group.ensures ∙ c.if-not-tells_some_group.true) in
-    sym (append-nil c.args.text.now.items) ∙ ap (λ told. c.args.text.now.items ++ member_text true (codes "view") told) (sym none)
+returns-then-not-tells_some_group c = grind (arith, view_none, append-nil)
 
 pub returns : goal.returns
 returns c =

@@ -1,21 +1,11 @@
-use Rattle.std.proofs.Common.{◌≡◌, ◌≤◌, length, take, ap, arith}
+use Rattle.std.proofs.Common.{◌≤◌, length, take, arith}
 use Rattle.std.proofs.lemmas.List.{length-take}
 use Rattle.press_units.proofs.ExitLemmas.{exit-is}
-use Rattle.press_devices.specs.declared.reading.ReadCount.{ReadCount}
 use Rattle.press_trace.proofs.Telling.{none_read, piece_few, piece_not_held, piece_stopped, piece_told, read_failed}
 use Rattle.press_trace.proofs.tracing.tell_pieces.Goals as goal
 
 pub loop-length-init : goal.loop-length-init
-loop-length-init g c =
-    let none : c.none-count.result.reads ≡ 0 = ap (λ (count : ReadCount). count.reads) c.none-count.ensures in
-    record {
-      so_far =
-          none_read c.args.by (g.R.ReadDevice.remaining c.args.reader.now) (g.W.WriteDevice.contents c.args.out.now) c.args.tracer.now
-          c.requires.start c.requires.sound;
-      counted = omega (arith, none);
-      most = omega (arith, none);
-      few = omega (arith, none, c.requires.start.nothing);
-    }
+loop-length-init g c = grind (arith, none_read)
 
 pub returns-in_err-length-clause-stops : goal.returns-in_err-length-clause-stops
 returns-in_err-length-clause-stops g c =
@@ -36,8 +26,7 @@ returns-in_err-tell_steps-clause-stops g c =
     c.in_err-tell_steps.ensures.further)
 
 pub returns-in_err-tell_steps-clause-unread : goal.returns-in_err-tell_steps-clause-unread
-returns-in_err-tell_steps-clause-unread g c =
-    rw (exit-is c.from_residual-in_err-tell_steps.ensures.1) (λ is. absurd (c.in_err-tell_steps.ensures.unread is))
+returns-in_err-tell_steps-clause-unread g c = grind (arith, exit-is)
 
 pub loop-length-preserved : goal.loop-length-preserved
 loop-length-preserved g c =

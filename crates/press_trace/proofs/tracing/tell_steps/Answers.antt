@@ -1,8 +1,6 @@
-use Rattle.std.proofs.Common.{Option, ℕ, option_map, Vec, Global, subst, sym}
+use Rattle.std.proofs.Common.{Option, ℕ, option_map, Vec, Global, subst, arith}
 use Rattle.press_units.proofs.ExitLemmas.{exit-is}
-use Rattle.press_trace.specs.Standing.{Further}
 use Rattle.press_trace.specs.Tracing.{TellsBy}
-use Rattle.press_trace.specs.declared.tracer.Tracer.{Tracer}
 use Rattle.press_trace.proofs.RunLemmas.{next_by, none_by}
 use Rattle.press_trace.proofs.Telling.{further, no_memory, no_output, one_since, since_here}
 use Rattle.press_trace.proofs.tracing.tell_steps.Goals as goal
@@ -48,13 +46,4 @@ loop-line-preserved g c =
     (rw c.deref.ensures.value at c.in_ok-write_whole.ensures.written)
 
 pub returns-clause-further : goal.returns-clause-further
-returns-clause-further g c =
-    let tells =
-    none_by c.args.by c.loop-line.tracer c.next.new.self
-    (subst (λ (line : Option (Vec ℕ Global)).
-    TellsBy c.args.by c.loop-line.tracer (option_map (λ (text : Vec ℕ Global). text.items) line) c.next.new.self)
-    c.in_default.is c.in_ok-line.ensures.tells) in
-    subst (λ (now : Tracer). Further c.args.by c.args.tracer.now (g.W.WriteDevice.contents c.args.out.now) now (g.W.WriteDevice.contents c.loop-line.out))
-    (sym tells.1)
-    (further c.args.by c.args.tracer.now (g.W.WriteDevice.contents c.args.out.now) c.loop-line.tracer (g.W.WriteDevice.contents c.loop-line.out)
-    c.loop-line.invariant tells.0)
+returns-clause-further g c = grind (arith, none_by, further)

@@ -1,10 +1,10 @@
+use Rattle.std.proofs.Common.{arith}
 use Rattle.press_units.proofs.ExitLemmas.{exit-is}
 use Rattle.press_trace.proofs.Telling.{end_stopped, end_told, flushed, not_begun, not_flushed}
 use Rattle.press_trace.proofs.tracing.trace_by.Goals as goal
 
 pub returns-in_err-tracer-clause-stops : goal.returns-in_err-tracer-clause-stops
-returns-in_err-tracer-clause-stops g c =
-    rw (exit-is c.from_residual.ensures.1) (not_begun c.args.by (g.R.ReadDevice.remaining c.args.reader.now) (g.W.WriteDevice.contents c.args.out.now))
+returns-in_err-tracer-clause-stops g c = grind (arith, exit-is, not_begun)
 
 pub returns-in_err-tell_steps-clause-stops : goal.returns-in_err-tell_steps-clause-stops
 returns-in_err-tell_steps-clause-stops g c =
@@ -13,8 +13,7 @@ returns-in_err-tell_steps-clause-stops g c =
     c.in_err-tell_steps.field-0.0 c.tell_steps.new.tracer _ c.in_err-tell_steps.ensures.further)
 
 pub returns-in_err-tell_steps-clause-unread : goal.returns-in_err-tell_steps-clause-unread
-returns-in_err-tell_steps-clause-unread g c =
-    rw (exit-is c.from_residual-in_err-tell_steps.ensures.1) (λ is. absurd (c.in_err-tell_steps.ensures.unread is))
+returns-in_err-tell_steps-clause-unread g c = grind (arith, exit-is)
 
 pub returns-in_err-flush_all-clause-stops : goal.returns-in_err-flush_all-clause-stops
 returns-in_err-flush_all-clause-stops g c =

@@ -13,9 +13,7 @@ use Rattle.press_trace.proofs.tracer.Tracer.next_run.Goals as goal
 use Rattle.press_trace.proofs.tracer.Tracer.next_run.Goals.{After-place_behind-self}
 
 pub place_behind-self-requires-clause-fewer : goal.place_behind-self-requires-clause-fewer
-place_behind-self-requires-clause-fewer c =
-    let (more, count, passes) = some_run c.args.self.now.job c.pass-steps.result c.pass-steps.new.self c.if-steps-eq0.false c.pass-steps.ensures in
-    omega (arith, each-fewer passes.given c.args.self.now.job.held c.pass-steps.new.self.held passes.each, c.held-held.ensures)
+place_behind-self-requires-clause-fewer c = grind (arith, some_run, each-fewer)
 
 -- the run that was taken
 ran : (c : After-place_behind-self) → (more : ℕ) × (c.pass-steps.result ≡ suc more) × PassesRun c.args.self.now.job (suc more) c.pass-steps.new.self

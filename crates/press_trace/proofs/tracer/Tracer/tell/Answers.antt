@@ -1,4 +1,4 @@
-use Rattle.std.proofs.Common.{◌≡◌, ◌∙◌, Option, Some, IfSome, ap, subst}
+use Rattle.std.proofs.Common.{◌≡◌, ◌∙◌, Option, Some, IfSome, ap, subst, arith}
 use Rattle.press_bits.specs.Page.{Page}
 use Rattle.press_engine.specs.declared.machine.Machine.{Machine}
 use Rattle.press_engine.specs.Engine.{view_of}
@@ -38,12 +38,4 @@ returns-clause-line c = λ machine shows before keeps.
     (ap (λ (tracer : Tracer). tracer.place) stays))
 
 pub returns-clause-kept : goal.returns-clause-kept
-returns-clause-kept c = λ machine shows.
-    let stays = c.in_ok-told.ensures.others in
-    let running : c.of.new.job.machine ≡ Some machine = ap (λ (job : JobState). job.machine) (c.in_ok-went.ensures.job ∙ ap (λ (tracer : Tracer). tracer.job) stays) ∙ shows.running in
-    let view = c.view-view.result in
-    let is : IsViewOf machine view = (
-      subst (λ (some : Option Machine). IfSome some (λ machine. view ≡ view_of view.stack machine)) running c.view-view.ensures.view,
-      subst (λ (some : Option Machine). IfSome some (λ machine. view.stack.now ≡ machine.state.cursor.stack)) running c.view-view.ensures.stack,
-    ) in
-    keeps_now c.in_ok-of.field-0 view c.page_told.new.self.page machine c.in_ok-of.ensures is (c.in_ok-told.ensures.page machine shows)
+returns-clause-kept c = grind (arith, keeps_now)
