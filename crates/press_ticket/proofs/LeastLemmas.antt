@@ -1,12 +1,11 @@
 -- The least of keys that ascend is the first.
-use Rattle.std.proofs.Common.{◌≡◌, ℕ, List, [], ◌∷◌, Bool, true, false, if◌then◌else◌, Option, Some, None, String}
-use Rattle.std.proofs.Common.{Global, Ordering, Less, Equal, Greater, string_bytes, string_cmp, nat_cmp, refl, sym, ap}
+use Rattle.std.proofs.Common.{◌≡◌, ℕ, List, [], ◌∷◌, Bool, true, false, if◌then◌else◌, Option, Some, None, String, arith}
+use Rattle.std.proofs.Common.{Global, Less, string_bytes, string_cmp, nat_cmp, refl, sym, ap}
 use Rattle.std.specs.Cmp.Lexicographic.{slice_cmp}
 use Rattle.std.specs.List.{AllByRecursion}
 use Rattle.std.specs.List.Sorted.{IsStrictlySortedBy}
 use Rattle.std.specs.Map.{keys_of}
 use Rattle.std.specs.Option.{IfSome}
-use Rattle.std.specs.Ordering.{match_ordering}
 use Rattle.serde_json.specs.View.{members_view}
 use Rattle.serde_json.specs.declared.value.Value.{Value}
 use Rattle.press_ticket.specs.Members.{is_ticket_key, lesser, least_unknown}
@@ -22,26 +21,12 @@ first_unknown (m ∷ ms) = if is_ticket_key (string_bytes m.0) then first_unknow
 abbrev IsBelow : List ℕ → Option (List ℕ) → Type 0
 IsBelow key o = IfSome o (λ other. slice_cmp nat_cmp key other ≡ Less)
 
-below_lesser : (key first : List ℕ) (o : Option (List ℕ)) → slice_cmp nat_cmp key first ≡ Less → IsBelow key o → slice_cmp nat_cmp key (lesser first o) ≡ Less
-below_lesser key first None h b = h
-below_lesser key first (Some other) h b = pick (slice_cmp nat_cmp first other)
-  where
-    pick : (o : Ordering) → slice_cmp nat_cmp key (match_ordering o first first other) ≡ Less
-    pick Less = h
-    pick Equal = h
-    pick Greater = b
-
 below_least : (key : List ℕ) (ms : List Entry) → AllByRecursion (λ k. slice_cmp nat_cmp key (string_bytes k) ≡ Less) (keys_of ms) → IsBelow key (least_unknown (members_view ms))
 below_least key [] h = tt
-below_least key (m ∷ ms) h = below (is_ticket_key (string_bytes m.0)) (below_least key ms h.1)
-  where
-    below : (b : Bool) → IsBelow key (least_unknown (members_view ms)) → IsBelow key (if b then least_unknown (members_view ms) else Some (lesser (string_bytes m.0) (least_unknown (members_view ms))))
-    below true rest = rest
-    below false rest = below_lesser key (string_bytes m.0) (least_unknown (members_view ms)) h.0 rest
+below_least key (m ∷ ms) h = grind (arith, below_least key ms h.1)
 
 lesser_below : (key : List ℕ) (o : Option (List ℕ)) → IsBelow key o → lesser key o ≡ key
-lesser_below key None h = refl
-lesser_below key (Some other) h = ap (λ c. match_ordering c key key other) h
+lesser_below key o h = grind arith
 
 pub first_is_least : (ms : List Entry) → IsStrictlySortedBy string_cmp (keys_of ms) → first_unknown ms ≡ least_unknown (members_view ms)
 unfolding IsStrictlySortedBy
