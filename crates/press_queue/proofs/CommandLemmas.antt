@@ -1,10 +1,8 @@
 -- A command to one entry that was carried out, and one that was refused.
-use Rattle.std.proofs.Common.{◌≡◌, ℕ, Bool, true, false, if◌then◌else◌, Option, Some, None, Result, Ok, Err, refl}
+use Rattle.std.proofs.Common.{◌≡◌, ℕ, true, Some, Ok, Err, arith}
 use Rattle.press_queue.specs.declared.command.EntryChange.{EntryChange}
 use Rattle.press_queue.specs.declared.command.EntryCommand.{EntryCommand}
 use Rattle.press_queue.specs.declared.entry.Entry.{Entry}
-use Rattle.press_queue.specs.declared.refusal.Refusal.{Refusal}
-use Rattle.press_queue.specs.declared.refusal.Refusal.TheVariants as refusals
 use Rattle.press_queue.specs.Entries.{changed, entry_numbered}
 use Rattle.press_queue.specs.Legal.{is_legal}
 use Rattle.press_queue.specs.Rows as rows
@@ -25,20 +23,4 @@ Commanded command number queue (new, Ok done) = IsCarriedOut command number queu
 Commanded command number queue (new, Err refusal) = new ≡ queue
 
 pub commanded_is : (command : EntryCommand) (number : ℕ) (queue : QueueState) → Commanded command number queue (rows.commanded command number queue)
-commanded_is command number queue = at_found (entry_numbered number queue.entries) refl
-  where
-    at_change : (entry : Entry) → entry_numbered number queue.entries ≡ Some entry → is_legal command entry.status ≡ true
-        → (made : Result EntryChange Refusal) → rows.change_of command queue ≡ made → Commanded command number queue (rows.at_change number entry queue made)
-    at_change entry there legal (Err refusal) makes = refl
-    at_change entry there legal (Ok change) makes =
-        record { entry = entry; there = there; legal = legal; change = change; makes = makes; is = refl }
-
-    at_legal : (entry : Entry) → entry_numbered number queue.entries ≡ Some entry → (legal : Bool) → is_legal command entry.status ≡ legal
-        → Commanded command number queue (rows.at_entry command number queue (if legal then Ok entry else Err refusals.WrongStatus))
-    at_legal entry there true legal = at_change entry there legal (rows.change_of command queue) refl
-    at_legal entry there false legal = refl
-
-    at_found : (found : Option Entry) → entry_numbered number queue.entries ≡ found
-        → Commanded command number queue (rows.at_entry command number queue (rows.legal_at command found))
-    at_found None there = refl
-    at_found (Some entry) there = at_legal entry there (is_legal command entry.status) refl
+commanded_is command number queue = grind arith
