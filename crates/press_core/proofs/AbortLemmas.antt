@@ -1,9 +1,10 @@
 -- The entries that run are aborted: on one engine after another, and all at once.
-use Rattle.std.proofs.Common.{◌≡◌, ◌||◌, ℕ, nat_eq, cond, if◌then◌else◌, Bool, true, false, List, [], ◌∷◌}
+use Rattle.std.proofs.Common.{◌≡◌, ◌≤◌, ◌+◌, zero, suc, add-one, take, length, arith, ◌||◌, ℕ, nat_eq, cond, if◌then◌else◌, Bool, true, false, List, [], ◌∷◌}
 use Rattle.std.proofs.Common.{map, Option, Some, None, is_some, refl, sym, ap, subst, ◌∙◌, true≢false}
 use Rattle.std.specs.List.{AllByRecursion, IsDistinct}
 use Rattle.std.specs.Map.{keys_of, lookup, set_value}
 use Rattle.std.proofs.lemmas.Bool.{eqb-true}
+use Rattle.std.proofs.lemmas.List.{take_all}
 use Rattle.std.proofs.lemmas.Option.{same_Some}
 use Rattle.press_page.specs.Environment.{changed_by}
 use Rattle.press_queue.specs.declared.entry.Entry.{Entry}
@@ -16,17 +17,12 @@ use Rattle.press_core.specs.Engines.{RunsOnEngines, is_number, left_by}
 use Rattle.press_core.specs.Events.{running_aborted}
 use Rattle.press_core.specs.Inside.{aborted_on}
 use Rattle.press_core.specs.Work.{Work, without_job}
-use Rattle.press_core.specs.World.{World, works_without_job}
-use Rattle.press_core.proofs.EngineLemmas.{is_on, on-runs}
+use Rattle.press_core.specs.World.{World, on_engine, works_without_job}
+use Rattle.press_core.proofs.EngineLemmas.{is_on, on-runs, slot}
 use Rattle.press_core.proofs.EntryLemmas.{itself}
 
 abbrev pub aborted_entry : Entry → Entry
 aborted_entry entry = record entry { status = statuses.Aborted }
-
--- the entries that engines run are aborted, one after another
-abbrev pub all_aborted : List (Option ℕ) → World → World
-all_aborted [] world = world
-all_aborted (entry ∷ others) world = all_aborted others (aborted_on entry world)
 
 -- ---- lists in which what stands under a number changes by it
 
@@ -51,12 +47,7 @@ keyed-absent number f (e ∷ es) all = λ j. (e.0, if all.0 j then f e.1 else e.
 
 keyed-missing : {X : Type 0} (number : ℕ) (f : X → X) (es : List (ℕ × X)) → lookup (nat_eq number) es ≡ None → keyed (where_so (nat_eq number) f) es ≡ es
 keyed-missing number f [] none = refl
-keyed-missing number f (e ∷ es) none = at (nat_eq number e.0) none (keyed-missing number f es)
-  where
-    at : (b : Bool) → cond b (Some e.1) (lookup (nat_eq number) es) ≡ None → (lookup (nat_eq number) es ≡ None → keyed (where_so (nat_eq number) f) es ≡ es)
-        → (e.0, if b then f e.1 else e.1) ∷ keyed (where_so (nat_eq number) f) es ≡ e ∷ es
-    at true none below = absurd (true≢false (ap is_some none))
-    at false none below = ap (λ l. e ∷ l) (below none)
+keyed-missing number f (e ∷ es) none = grind (arith, true≢false, is_some, keyed-missing number f es)
 
 -- what is set under one number alone
 set-keyed : {X : Type 0} (number : ℕ) (f : X → X) (es : List (ℕ × X)) (x : X) → IsDistinct nat_eq (keys_of es) → lookup (nat_eq number) es ≡ Some x
@@ -78,72 +69,49 @@ set-keyed number f (e ∷ es) x distinct is = at (nat_eq number e.0) refl is (se
 keyed-then : {X : Type 0} (p q : ℕ → Bool) (f : X → X) (es : List (ℕ × X)) → ((x : X) → f (f x) ≡ f x)
     → keyed (where_so q f) (keyed (where_so p f) es) ≡ keyed (where_so (λ n. p n || q n) f) es
 keyed-then p q f [] twice = refl
-keyed-then p q f (e ∷ es) twice = λ j. (e.0, at (p e.0) (q e.0) j) ∷ keyed-then p q f es twice j
-  where
-    at : (b c : Bool) → (if c then f (if b then f e.1 else e.1) else (if b then f e.1 else e.1)) ≡ (if b || c then f e.1 else e.1)
-    at true true = twice e.1
-    at true false = refl
-    at false true = refl
-    at false false = refl
+keyed-then p q f (e ∷ es) twice = grind (arith, keyed-then p q f es)
 
--- ---- engines that are left, one number after another
+-- ---- the entries of some numbers are aborted
 
-abbrev left_in : List (Option ℕ) → Option ℕ → Option ℕ
-left_in [] e = e
-left_in (None ∷ all) e = left_in all e
-left_in (Some n ∷ all) e = left_in all (if is_number n e then None else e)
+-- an engine is free where it runs one of these
+abbrev cleared : (ℕ → Bool) → Option ℕ → Option ℕ
+cleared p None = None
+cleared p (Some n) = if p n then None else Some n
 
-left_in-none : (all : List (Option ℕ)) → left_in all None ≡ None
-left_in-none [] = refl
-left_in-none (None ∷ all) = left_in-none all
-left_in-none (Some n ∷ all) = left_in-none all
-
-left_in-some : (m : ℕ) (all : List (Option ℕ)) → is_on m all ≡ true → left_in all (Some m) ≡ None
-left_in-some m [] is = absurd (true≢false (sym is))
-left_in-some m (None ∷ all) is = left_in-some m all is
-left_in-some m (Some n ∷ all) is = at (nat_eq m n) refl (left_in-some m all)
-  where
-    apart : (b : Bool) → nat_eq n m ≡ b → nat_eq m n ≡ false → b ≡ false
-    apart false same other = refl
-    apart true same other = absurd (true≢false (sym (ap (λ k. nat_eq m k) (eqb-true n m same) ∙ itself m) ∙ other))
-
-    at : (b : Bool) → nat_eq m n ≡ b → (is_on m all ≡ true → left_in all (Some m) ≡ None) → left_in all (if b then None else Some m) ≡ None
-    at true same below = left_in-none all
-    at false same below = below (sym (ap (λ b. b || is_on m all) (apart (nat_eq n m) refl same)) ∙ is)
-
-abbrev left_all : (all engines : List (Option ℕ)) → List (Option ℕ)
-left_all all engines = map (left_in all) engines
-
-left_all-none : (engines : List (Option ℕ)) → left_all [] engines ≡ engines
-left_all-none [] = refl
-left_all-none (e ∷ engines) = ap (λ l. e ∷ l) (left_all-none engines)
-
-left_all-then : (n : ℕ) (all engines : List (Option ℕ)) → left_all all (left_by n engines) ≡ left_all (Some n ∷ all) engines
-left_all-then n all [] = refl
-left_all-then n all (e ∷ engines) = ap (λ l. left_in all (if is_number n e then None else e) ∷ l) (left_all-then n all engines)
-
--- each number on these is on those
-left_all-free : (all engines : List (Option ℕ)) → ((m : ℕ) → is_on m engines ≡ true → is_on m all ≡ true) → left_all all engines ≡ map (λ e. None) engines
-left_all-free all [] on = refl
-left_all-free all (e ∷ engines) on = λ j. at e refl j ∷ left_all-free all engines (λ m is. on m (later (is_number m e) m is)) j
-  where
-    later : (b : Bool) (m : ℕ) → is_on m engines ≡ true → b || is_on m engines ≡ true
-    later true m is = refl
-    later false m is = is
-
-    at : (o : Option ℕ) → o ≡ e → left_in all o ≡ None
-    at None same = left_in-none all
-    at (Some m) same = left_in-some m all (on m (ap (λ x. is_number m x || is_on m engines) (sym same) ∙ ap (λ b. b || is_on m engines) (itself m)))
-
--- ---- all engines
-
-abbrev left_after : List (Option ℕ) → World → World
-left_after es world = record world {
-  queue = rows.with_entries (keyed (where_so (λ n. is_on n es) aborted_entry) world.queue.entries) world.queue;
-  works = keyed (where_so (λ n. is_on n es) without_job) world.works;
-  engines = left_all es world.engines;
+abbrev pub aborted_where : (ℕ → Bool) → World → World
+aborted_where p world = record world {
+  queue = rows.with_entries (keyed (where_so p aborted_entry) world.queue.entries) world.queue;
+  works = keyed (where_so p without_job) world.works;
+  engines = map (cleared p) world.engines;
 }
 
+cleared-none : (es : List (Option ℕ)) → map (cleared (λ n. false)) es ≡ es
+cleared-none [] = refl
+cleared-none (None ∷ es) = ap (λ l. None ∷ l) (cleared-none es)
+cleared-none (Some n ∷ es) = ap (λ l. Some n ∷ l) (cleared-none es)
+
+cleared-then : (p q : ℕ → Bool) (es : List (Option ℕ)) → map (cleared q) (map (cleared p) es) ≡ map (cleared (λ n. p n || q n)) es
+cleared-then p q [] = refl
+cleared-then p q (None ∷ es) = ap (λ l. None ∷ l) (cleared-then p q es)
+cleared-then p q (Some n ∷ es) = grind (arith, cleared-then p q es)
+
+cleared-left : (number : ℕ) (es : List (Option ℕ)) → left_by number es ≡ map (cleared (nat_eq number)) es
+cleared-left number [] = refl
+cleared-left number (None ∷ es) = ap (λ l. None ∷ l) (cleared-left number es)
+cleared-left number (Some n ∷ es) = grind (arith, cleared-left number es)
+
+cleared-slot : (p : ℕ → Bool) (i : ℕ) (es : List (Option ℕ)) → slot (map (cleared p) es) i ≡ cleared p (slot es i)
+cleared-slot p i [] = refl
+cleared-slot p zero (e ∷ es) = refl
+cleared-slot p (suc i) (e ∷ es) = cleared-slot p i es
+
+-- where all that stand on engines are these
+cleared-all : (p : ℕ → Bool) (es : List (Option ℕ)) → ((n : ℕ) → is_on n es ≡ true → p n ≡ true) → map (cleared p) es ≡ map (λ e. None) es
+cleared-all p [] on = refl
+cleared-all p (None ∷ es) on = ap (λ l. None ∷ l) (cleared-all p es on)
+cleared-all p (Some m ∷ es) on = grind (arith, itself, cleared-all p es)
+
+-- of one number
 finish-keyed : (number : ℕ) (queue : QueueState) → IsDistinct nat_eq (keys_of queue.entries)
     → rows.finish_entry number Aborted queue ≡ rows.with_entries (keyed (where_so (nat_eq number) aborted_entry) queue.entries) queue
 finish-keyed number queue distinct = at (entry_numbered number queue.entries) refl
@@ -162,40 +130,56 @@ drop-keyed number works distinct = at (lookup (nat_eq number) works) refl
     at None is = sym (keyed-missing number without_job works is)
     at (Some work) is = set-keyed number without_job works work distinct is
 
-all-left : (es : List (Option ℕ)) (world : World) → IsDistinct nat_eq (keys_of world.queue.entries) → IsDistinct nat_eq (keys_of world.works) → all_aborted es world ≡ left_after es world
-all-left [] world entries works = λ j. record world {
-  queue = rows.with_entries (sym (keyed-none aborted_entry world.queue.entries) j) world.queue;
-  works = sym (keyed-none without_job world.works) j;
-  engines = sym (left_all-none world.engines) j;
-}
-all-left (None ∷ es) world entries works = all-left es world entries works
-all-left (Some number ∷ es) world entries works =
-    let mid = aborted_on (Some number) world in
-    let queue_is : mid.queue ≡ rows.with_entries (keyed (where_so (nat_eq number) aborted_entry) world.queue.entries) world.queue = finish-keyed number world.queue entries in
-    let works_are : mid.works ≡ keyed (where_so (nat_eq number) without_job) world.works = drop-keyed number world.works works in
-    let rest : all_aborted es mid ≡ left_after es mid =
-    all-left es mid
-    (subst (IsDistinct nat_eq) (sym (ap (λ (q : QueueState). keys_of q.entries) queue_is ∙ keyed-keys (where_so (nat_eq number) aborted_entry) world.queue.entries)) entries)
-    (subst (IsDistinct nat_eq) (sym (ap (λ ws. keys_of ws) works_are ∙ keyed-keys (where_so (nat_eq number) without_job) world.works)) works) in
-    rest
-    ∙ (λ j. record world {
-      queue = rows.with_entries (keyed (where_so (λ n. is_on n es) aborted_entry) (queue_is j).entries) (queue_is j);
-      works = keyed (where_so (λ n. is_on n es) without_job) (works_are j);
-      engines = left_all-then number es world.engines j;
-    })
-    ∙ (λ j. record world {
-      queue = rows.with_entries (keyed-then (nat_eq number) (λ n. is_on n es) aborted_entry world.queue.entries (λ x. refl) j) world.queue;
-      works = keyed-then (nat_eq number) (λ n. is_on n es) without_job world.works (λ x. refl) j;
-      engines = left_all (Some number ∷ es) world.engines;
-    })
+aborted-one : (number : ℕ) (world : World) → IsDistinct nat_eq (keys_of world.queue.entries) → IsDistinct nat_eq (keys_of world.works)
+    → aborted_on (Some number) world ≡ aborted_where (nat_eq number) world
+aborted-one number world entries works = grind (arith, finish-keyed, drop-keyed, cleared-left)
+
+-- of some, and then of others
+aborted-then : (p q : ℕ → Bool) (world : World) → aborted_where q (aborted_where p world) ≡ aborted_where (λ n. p n || q n) world
+aborted-then p q world = search (arith, keyed-then, cleared-then)
+
+-- ---- one engine after another
+
+or_false : (b : Bool) → b ≡ b || false
+or_false b = grind arith
+
+already : (p : ℕ → Bool) (m n : ℕ) → p m ≡ true → (b : Bool) → nat_eq m n ≡ b → p n ≡ p n || b
+already p m n is b same = grind arith
+
+aborted-more : (p : ℕ → Bool) (o : Option ℕ) (world : World) → IsDistinct nat_eq (keys_of world.queue.entries) → IsDistinct nat_eq (keys_of world.works)
+    → aborted_on (cleared p o) (aborted_where p world) ≡ aborted_where (λ n. p n || is_number n o) world
+aborted-more p None world entries works = λ j. aborted_where (λ n. or_false (p n) j) world
+aborted-more p (Some m) world entries works =
+    grind (arith, already, aborted-one m (aborted_where p world), keyed-keys (where_so p aborted_entry) world.queue.entries, keyed-keys (where_so p without_job) world.works, aborted-then p (nat_eq m) world)
+
+on-more : (n i : ℕ) (es : List (Option ℕ)) → is_on n (take (suc i) es) ≡ is_on n (take i es) || is_number n (slot es i)
+on-more n zero [] = refl
+on-more n (suc i) [] = refl
+on-more n zero (e ∷ es) = sym (or_false (is_number n e))
+on-more n (suc i) (e ∷ es) = grind (arith, is_on, slot, on-more n i es)
+
+-- the entries of the first engines are aborted
+abbrev pub aborted_so_far : (engine : ℕ) → World → World
+aborted_so_far engine world = aborted_where (λ n. is_on n (take engine world.engines)) world
+
+pub aborted-none : (world : World) → world ≡ aborted_so_far 0 world
+aborted-none world = search (arith, keyed-none, cleared-none)
+
+pub aborted-next : (i : ℕ) (world now next : World) → IsDistinct nat_eq (keys_of world.queue.entries) → IsDistinct nat_eq (keys_of world.works)
+    → now ≡ aborted_so_far i world → next ≡ aborted_on (on_engine i now) now → next ≡ aborted_so_far (i + 1) world
+aborted-next i world now next entries works so_far is =
+    is ∙ ap (λ (w : World). aborted_on (on_engine i w) w) so_far
+    ∙ ap (λ o. aborted_on o (aborted_so_far i world)) (cleared-slot (λ n. is_on n (take i world.engines)) i world.engines)
+    ∙ aborted-more (λ n. is_on n (take i world.engines)) (slot world.engines i) world entries works
+    ∙ (λ j. aborted_where (λ n. sym (on-more n i world.engines) j) world)
+    ∙ ap (λ k. aborted_so_far k world) (sym (add-one i))
 
 -- One engine after another, and all at once, are the same of a press.
-pub all-aborted : (world : World) → IsDistinct nat_eq (keys_of world.queue.entries) → IsDistinct nat_eq (keys_of world.works) → RunsOnEngines world.queue world.engines
-    → all_aborted world.engines world ≡ running_aborted world
-all-aborted world entries works on =
-    all-left world.engines world entries works
+pub aborted-all : (i : ℕ) (world : World) → length world.engines ≤ i → RunsOnEngines world.queue world.engines → aborted_so_far i world ≡ running_aborted world
+aborted-all i world past on =
+    ap (λ es. aborted_where (λ n. is_on n es) world) (take_all i world.engines past)
     ∙ (λ j. record world {
       queue = rows.with_entries (keyed (λ n x. if on-runs world.queue world.engines on n j then aborted_entry x else x) world.queue.entries) world.queue;
       works = keyed (λ n x. if on-runs world.queue world.engines on n j then without_job x else x) world.works;
-      engines = left_all-free world.engines world.engines (λ m is. is) j;
+      engines = cleared-all (λ n. is_on n world.engines) world.engines (λ n is. is) j;
     })

@@ -1,5 +1,5 @@
 -- What is told of each engine.
-use Rattle.std.proofs.Common.{◌≡◌, ◌<◌, ◌+◌, ◌++◌, ◌∙◌, ℕ, add-one, List, [], ◌∷◌, drop, length, map, sym, ap, append_assoc}
+use Rattle.std.proofs.Common.{◌≡◌, ◌<◌, ◌+◌, ◌++◌, ℕ, add-one, List, [], ◌∷◌, drop, length, map, append_assoc, arith}
 use Rattle.serde_json.specs.Data.{Data}
 use Rattle.press_core.specs.Listings.{listed_device}
 use Rattle.press_core.specs.World.{World, device, device_running}
@@ -12,8 +12,4 @@ told_from engine world = map listed_device (map (λ entry. device_running entry 
 -- of one more
 pub told-next : (world : World) (engine : ℕ) (so_far all : List Data) (told : Data) → engine < length world.engines → told ≡ listed_device (device engine world)
     → so_far ++ told_from engine world ≡ all → (so_far ++ told ∷ []) ++ told_from (engine + 1) world ≡ all
-told-next world engine so_far all told within is before =
-    append_assoc so_far (told ∷ []) (told_from (engine + 1) world)
-    ∙ ap (λ d. so_far ++ d ∷ told_from (engine + 1) world) is
-    ∙ ap (λ k. so_far ++ listed_device (device engine world) ∷ told_from k world) (add-one engine)
-    ∙ ap (λ es. so_far ++ map listed_device (map (λ entry. device_running entry world) es)) (sym (drop-slot engine world.engines within)) ∙ before
+told-next world engine so_far all told within is before = grind (arith, append_assoc, add-one, drop-slot)

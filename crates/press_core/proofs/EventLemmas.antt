@@ -1,12 +1,12 @@
 -- Messages as events.
-use Rattle.std.proofs.Common.{◌≡◌, ◌∙◌, ℕ, [], List, IfOk, IfSome, OnErr, OnOk, Result, Ok, Err, Some, Vec, Global, option_and_then, refl, sym, ap, subst}
+use Rattle.std.proofs.Common.{◌≡◌, ℕ, [], List, IfOk, IfSome, OnErr, OnOk, Result, Ok, Some, Vec, Global, arith}
 use Rattle.std.specs.declared.alloc.AllocError.{AllocError}
 use Rattle.serde_json.specs.Data.{Data}
 use Rattle.press_bits.specs.Page.{Page}
 use Rattle.press_core.specs.declared.message_type.MessageType.{MessageType}
 use Rattle.press_core.specs.Events.{Happens, Message, response_to}
 use Rattle.press_core.specs.Messages.{Heading, heading_of, message_in}
-use Rattle.press_core.specs.Rows.{response_row, responding, responding_in, responding_to, ticket_of_headed, ticket_of_type}
+use Rattle.press_core.specs.Rows.{response_row, responding, ticket_of_type}
 use Rattle.press_core.specs.Work.{IsPrintable}
 use Rattle.press_core.specs.World.{World}
 
@@ -16,10 +16,4 @@ pub message_happens : (text : List ℕ) (images : List Page) (world next : World
     → IfOk result (λ bytes. (bytes.items, next) ≡ responding heading world (response_row message_type message images world)) → OnErr result (next ≡ world)
     → OnOk result (IfSome (ticket_of_type message_type message images) (λ ticket. IsPrintable ticket images))
     → Happens world (Message text images) (response_to result) [] next
-message_happens text images world next message heading message_type (Ok bytes) is headed responds same printable = (
-  refl,
-  responds ∙ sym (ap (λ m. responding_in m images world) is ∙ ap (λ h. responding_to h message images world) headed),
-  subst (λ o. IfSome o (λ ticket. IsPrintable ticket images))
-      (sym (ap (λ m. option_and_then (λ d. ticket_of_headed (heading_of d) d images) m) is ∙ ap (λ h. ticket_of_headed h message images) headed)) printable,
-)
-message_happens text images world next message heading message_type (Err error) is headed responds same printable = (refl, same)
+message_happens text images world next message heading message_type result is headed responds same printable = grind arith

@@ -1,8 +1,9 @@
 -- A job at its place, and its next step.
-use Rattle.std.proofs.Common.{◌≡◌, ◌∙◌, ◌+◌, ◌<◌, ◌≤◌, ◌++◌, ◌↔◌, ℕ, zero, suc, List, [], ◌∷◌, length, take, drop, nat_eq, Bool}
-use Rattle.std.proofs.Common.{true, false, Some, IsTrue, Result, Ok, Err, is_err, refl, sym, ap, subst, arith, rules, length-append}
+use Rattle.std.proofs.Common.{◌≡◌, ◌∙◌, ◌+◌, ◌<◌, ◌≤◌, ◌++◌, ◌↔◌, ℕ, List, [], ◌∷◌, length, take, drop, nat_eq, Bool}
+use Rattle.std.proofs.Common.{true, false, Some, IsTrue, Result, Ok, is_err, refl, sym, ap, subst, arith, rules, length-append}
 use Rattle.std.proofs.lemmas.Bool.{true≢false}
-use Rattle.std.proofs.lemmas.List.{append-nil}
+use Rattle.std.proofs.Math.Seq.{drop-length, take-add}
+use Rattle.std.proofs.lemmas.List.{append-nil, drop-drop, length-drop}
 use Rattle.press_bits.specs.Page.{Page}
 use Rattle.press_cmd.specs.ParserState.{Exit}
 use Rattle.press_cmd.specs.Split.{Closed, closing}
@@ -23,19 +24,19 @@ use Rattle.press_stream.specs.Left.{LeftWith, LeftGoesOn}
 use Rattle.press_stream.specs.Meaning.{with_exit}
 use Rattle.press_stream.specs.State.{JobState, IsOver, opened, with_piece, input_ended}
 use Rattle.press_stream.specs.Steps.{Does, DoesStep}
+use Rattle.press_stream.proofs.Items.{last-append}
 use Rattle.press_writer.specs.Job.{job_bytes}
 use Rattle.press_writer.specs.Left.{JobLeft, HasImages, bytes_left, most_job_commands}
 use Rattle.press_printing.specs.Printing.{PrintsTheTicket}
 use Rattle.press_core.specs.declared.work.RunningJob.{RunningJob}
-use Rattle.press_core.specs.Jobs.{IsAt, JobGoesOn, end_to_come, still_to_come}
+use Rattle.press_core.specs.Jobs.{IsAt, JobGoesOn, still_to_come}
 use Rattle.press_core.specs.Turns.{IsJobOf, sheets_from}
 use Rattle.press_core.specs.Work.{Work}
 
 -- ---- the items of a job are one list
 
 pub IsJobOf-one : (work : Work) (items others : List StepResult) → IsJobOf work items → IsJobOf work others → items ≡ others
-IsJobOf-one work items others (c, closed, is) (d, other, are) =
-    is ∙ ap (λ (commands : List Token). trace (with_exit commands) power_on) (closed_once Exit (job_bytes work.ticket work.images) c d closed other) ∙ sym are
+IsJobOf-one work items others (c, closed, is) (d, other, are) = grind (arith, closed_once Exit (job_bytes work.ticket work.images) c d)
 
 pub IsJobOf-some : (work : Work) → (items : List StepResult) × IsJobOf work items
 IsJobOf-some work =
@@ -95,13 +96,11 @@ pushed_at law items images old job writer piece going next is has at =
 
 pub pushed-fewer : (images : List Page) (old : RunningJob) (job : JobState) (writer : JobLeft) (piece : List ℕ) → bytes_left old.writer images ≡ piece ++ bytes_left writer images
     → job ≡ with_piece piece old.job → 1 ≤ length piece → still_to_come (record { job = job; writer = writer; steps = old.steps }) images < still_to_come old images
-pushed-fewer images old job writer piece next is some =
-    omega (arith, some, ap end_to_come is, ap length next, length-append piece (bytes_left writer images))
+pushed-fewer images old job writer piece next is some = grind (arith, length-append)
 
 -- a piece that was not refused
 pub pushes_ok : (old new : JobState) (piece : List ℕ) (result : Result (Unit {0}) JobError) → is_err result ≡ false → Pushes old piece result new → new ≡ with_piece piece old
-pushes_ok old new piece (Ok done) ok pushes = pushes.2
-pushes_ok old new piece (Err error) ok pushes = absurd (true≢false ok)
+pushes_ok old new piece result ok pushes = grind arith
 
 -- the end was given, where nothing is to come
 pub ended_at : LeftGoesOn → (items : List StepResult) (images : List Page) (old : RunningJob) (job : JobState) (writer : JobLeft) → bytes_left old.writer images ≡ []
@@ -120,42 +119,16 @@ ended_at law items images old job writer none is kept at =
 
 pub ended-fewer : (images : List Page) (old : RunningJob) (job : JobState) (writer : JobLeft) → bytes_left old.writer images ≡ [] → job ≡ input_ended old.job → writer ≡ old.writer
     → old.job.held.ended ≡ false → still_to_come (record { job = job; writer = writer; steps = old.steps }) images < still_to_come old images
-ended-fewer images old job writer none is kept going =
-    let over : end_to_come job ≡ 0 = ap end_to_come is in
-    let before : end_to_come old.job ≡ 1 = rw going refl in
-    omega (arith, over, before, ap length none, ap (λ (left : JobLeft). length (bytes_left left images)) kept)
+ended-fewer images old job writer none is kept going = grind arith
 
 -- ---- a step
 
-take_more : {X : Type 0} (k : ℕ) (xs rest : List X) (x : X) → drop k xs ≡ x ∷ rest → take (k + 1) xs ≡ take k xs ++ x ∷ []
-take_more zero [] rest x is = absurd (cc)
-take_more zero (y ∷ xs) rest x is = grind (arith, rules, is)
-take_more (suc k) [] rest x is = absurd (cc)
-take_more (suc k) (y ∷ xs) rest x is =
-    let e : suc k + 1 ≡ suc (k + 1) = omega arith in
-    rw e (ap (λ l. y ∷ l) (take_more k xs rest x is))
-
+-- the place behind the next item
 pub drop_more : {X : Type 0} (k : ℕ) (xs rest : List X) (x : X) → drop k xs ≡ x ∷ rest → drop (k + 1) xs ≡ rest
-drop_more zero [] rest x is = absurd (cc)
-drop_more zero (y ∷ xs) rest x is = grind (arith, rules, is)
-drop_more (suc k) [] rest x is = absurd (cc)
-drop_more (suc k) (y ∷ xs) rest x is =
-    let e : suc k + 1 ≡ suc (k + 1) = omega arith in
-    rw e (drop_more k xs rest x is)
+drop_more k xs rest x is = sym (drop-drop 1 k xs) ∙ ap (drop 1) is
 
-before_more : {X : Type 0} (k : ℕ) (xs rest : List X) (x : X) → drop k xs ≡ x ∷ rest → k + 1 ≤ length xs
-before_more zero [] rest x is = absurd (cc)
-before_more zero (y ∷ xs) rest x is = omega arith
-before_more (suc k) [] rest x is = absurd (cc)
-before_more (suc k) (y ∷ xs) rest x is = omega (arith, before_more k xs rest x is)
-
-take_one : {X : Type 0} (xs rest : List X) (x : X) → xs ≡ x ∷ rest → take 1 xs ≡ x ∷ []
-take_one [] rest x is = absurd (cc)
-take_one (y ∷ xs) rest x is = grind (arith, rules, is)
-
-last_of_more : (items : List StepResult) (item : StepResult) (machine : Machine) → last_machine machine (items ++ item ∷ []) ≡ item.machine
-last_of_more [] item machine = refl
-last_of_more (first ∷ items) item machine = last_of_more items item first.machine
+take_next : {X : Type 0} (k : ℕ) (xs rest : List X) (x : X) → drop k xs ≡ x ∷ rest → take (k + 1) xs ≡ take k xs ++ x ∷ []
+take_next k xs rest x is = take-add k 1 xs ∙ ap (λ l. take k xs ++ take 1 l) is
 
 -- What a step of a job at its place leaves: it is at the next place, and the outputs are those of the item there.
 pub steps_on : LeftGoesOn → (items : List StepResult) (images : List Page) (old : RunningJob) (job : JobState) (item : StepResult) (kind : Kind) → IsAt items images old → Does old.job item kind job
@@ -164,46 +137,35 @@ steps_on law items images old job item kind at did =
     let progress = old.steps in
     let on = law.does old.job job item kind (bytes_left old.writer images) (drop progress items) at.left did in (
       record {
-        within = before_more progress items on.others item on.are;
+        within = omega (arith, ap length on.are, length-drop progress items);
         machine =
             did.ends
             ∙ ap (λ (machine : Machine). Some machine) (sym
-            (ap (last_machine power_on) (take_more progress items on.others item on.are)
-            ∙ last_of_more (take progress items) item power_on));
+            (ap (last_machine power_on) (take_next progress items on.others item on.are)
+            ∙ last-append (take progress items) (item ∷ []) power_on));
         left = subst (λ (these : List StepResult). LeftWith job (bytes_left old.writer images) these) (sym (drop_more progress items on.others item on.are)) on.still;
         has_images = at.has_images;
         fits = at.fits;
       },
-      sym (ap joined (take_one (drop progress items) on.others item on.are) ∙ append-nil item.outputs),
+      sym (ap (λ l. joined (take 1 l)) on.are ∙ append-nil item.outputs),
     )
 
 -- ---- the end
 
-length_dropped : {X : Type 0} (k : ℕ) (xs : List X) → k ≤ length xs → length (drop k xs) + k ≡ length xs
-length_dropped zero xs within = omega arith
-length_dropped (suc k) [] within = absurd (omega (arith, within))
-length_dropped (suc k) (x ∷ xs) within = omega (arith, length_dropped k xs (omega (arith, within)))
-
 -- no item is left exactly at the end
 pub at_end : (items : List StepResult) (images : List Page) (running : RunningJob) → IsAt items images running → drop running.steps items ≡ [] → running.steps ≡ length items
-at_end items images running at none = omega (arith, length_dropped running.steps items at.within, ap length none)
-
-nothing_behind : {X : Type 0} (xs : List X) → length xs ≡ 0 → xs ≡ []
-nothing_behind [] none = refl
-nothing_behind (x ∷ xs) none = absurd (omega (arith, none))
+at_end items images running at none = omega (arith, length-drop running.steps items, at.within, ap length none)
 
 pub over_is : (items : List StepResult) (images : List Page) (running : RunningJob) (over : Bool) → IsAt items images running
     → ((bytes : List ℕ) (left : List StepResult) → LeftWith running.job bytes left → IsTrue over ↔ (left ≡ [])) → over ≡ nat_eq running.steps (length items)
 over_is items images running true at tells =
-    let end = at_end items images running at ((tells (bytes_left running.writer images) (drop running.steps items) at.left).0 refl) in
-    grind (arith, rules, end)
+    grind (arith, at_end items images running at ((tells (bytes_left running.writer images) (drop running.steps items) at.left).0 refl))
 over_is items images running false at tells = by (nat_eq running.steps (length items)) refl where
   by : (same : Bool) → nat_eq running.steps (length items) ≡ same → false ≡ nat_eq running.steps (length items)
   by false is = sym is
   by true is =
       let end : running.steps ≡ length items = grind (arith, rules, is) in
-      let none : length (drop running.steps items) ≡ 0 = omega (arith, end, length_dropped running.steps items at.within) in
-      absurd (true≢false (sym ((tells (bytes_left running.writer images) (drop running.steps items) at.left).1 (nothing_behind (drop running.steps items) none))))
+      absurd (true≢false (sym ((tells (bytes_left running.writer images) (drop running.steps items) at.left).1 (ap (λ k. drop k items) end ∙ drop-length items))))
 
 -- a job before its end is not over
 pub not_over : LeftGoesOn → (items : List StepResult) (images : List Page) (running : RunningJob) → IsAt items images running → running.steps < length items → IsOver running.job → ⊥
@@ -235,5 +197,4 @@ goes_on_after law items images step answer old now job at here is takes =
 
 pub not_ended : LeftGoesOn → (items : List StepResult) (images : List Page) (answer : JobStep) (running : RunningJob) (job : JobState) → IsAt items images running
     → running.steps < length items → answer ≡ answers.Ended → TakesStep running.job (Ok answer) job → ⊥
-not_ended law items images answer running job at within is takes =
-    not_over law items images running at within (subst (λ s. TakesStep running.job (Ok s) job) is takes).0
+not_ended law items images answer running job at within is takes = grind (arith, not_over)

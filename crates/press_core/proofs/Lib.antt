@@ -7,10 +7,8 @@ pub mod EngineLemmas
 pub mod EntryLemmas
 pub mod EventLemmas
 pub mod FloatLemmas
-pub mod FoundLemmas
 pub mod HandingLemmas
 pub mod JobLemmas
-pub mod RunsLemmas
 pub mod PressLemmas
 pub mod SoundLemmas
 pub mod StandLemmas

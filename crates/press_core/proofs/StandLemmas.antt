@@ -1,5 +1,5 @@
 -- A work whose job stands at its place.
-use Rattle.std.proofs.Common.{◌≡◌, ◌∙◌, ◌+◌, ◌<◌, ◌≤◌, ◌↔◌, ℕ, List, [], length, nat_eq, IsTrue, Bool, Option, Some, IfSome, Result, Ok, Err, OnErr, Vec, Global, option_map, unwrap_or, sym, ap, subst}
+use Rattle.std.proofs.Common.{◌≡◌, ◌∙◌, ◌+◌, ◌<◌, ◌≤◌, ◌↔◌, ℕ, List, [], length, nat_eq, IsTrue, Bool, Option, Some, IfSome, Vec, Global, option_map, unwrap_or, sym, ap, subst, arith}
 use Rattle.press_bits.specs.Page.{Page}
 use Rattle.press_engine.specs.Machine.{StepResult}
 use Rattle.press_bits.specs.PrintedSheet.{PrintedSheet}
@@ -47,9 +47,7 @@ within_progress work o running is progress stands items job =
 pub may_go_on : (work : Work) (o : Option RunningJob) (running : RunningJob) → o ≡ Some running → work.progress ≡ option_map (λ r. r.steps) o → IfSome o (λ r. IsJobAt work r)
     → ((items : List StepResult) → IsJobOf work items → progress_in_job work < length items)
     → (items : List StepResult) × IsAt items work.images running × (running.steps < length items)
-may_go_on work o running is progress stands going =
-    let at = standing work o running is stands in
-    (at.0, at.2, subst (λ n. n < length at.0) (placed work o running is progress) (going at.0 at.1))
+may_go_on work o running is progress stands going = grind arith
 
 -- the work of a job that went on
 pub advances : (work : Work) (o : Option RunningJob) (running new : RunningJob) (sheets : List PrintedSheet) → o ≡ Some running → work.progress ≡ option_map (λ r. r.steps) o
@@ -61,7 +59,3 @@ advances work o running new sheets is progress stands goes items job =
     let here = placed work o running is progress in
     let on = goes items (subst (λ cs. IsAt cs work.images running) (IsJobOf-one work at.0 items at.1 job) at.2) in
     (ap (λ n. at_progress n work) (on.next ∙ ap (λ n. n + 1) (sym here)), on.sheets_are ∙ ap (λ n. sheets_from n 1 items) (sym here))
-
-pub on_err : {A E P : Type 0} (r : Result A E) → P → OnErr r P
-on_err (Ok a) p = tt
-on_err (Err e) p = p

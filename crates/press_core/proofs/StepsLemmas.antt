@@ -1,21 +1,20 @@
 -- Steps of a work's job, one after another.
-use Rattle.std.proofs.Common.{◌≡◌, ◌∙◌, ◌+◌, ◌-◌, ◌<◌, ◌≤◌, ◌++◌, ℕ, List, [], ◌⊎◌, inl, inr, length, take, drop, Option, Some, None}
-use Rattle.std.proofs.Common.{IsSome, Result, Ok, Err, refl, sym, ap, subst, arith, rules, nat_eq, is_some, Bool, false, true≢false}
+use Rattle.std.proofs.Common.{◌≡◌, ◌∙◌, ◌+◌, ◌-◌, ◌<◌, ◌≤◌, ◌++◌, ℕ, List, [], ◌⊎◌, inl, inr, length, Some, None}
+use Rattle.std.proofs.Common.{IsSome, Result, Ok, Err, refl, sym, ap, subst, arith, nat_eq, is_some, Bool, false}
 use Rattle.std.proofs.Math.Seq.{take-add}
 use Rattle.std.proofs.lemmas.List.{append_assoc, append-nil, drop-drop, map-append}
 use Rattle.press_engine.specs.Machine.{StepResult}
 use Rattle.press_engine.proofs.TraceLaws.{joined-append}
-use Rattle.press_engine.specs.Trace.{joined}
-use Rattle.press_sink.specs.Sending.{sheets_of, under_tag}
+use Rattle.press_sink.specs.Sending.{under_tag}
 use Rattle.press_bits.specs.PrintedSheet.{PrintedSheet}
 use Rattle.press_sink.specs.SinkLog.{SheetLog}
-use Rattle.press_sink.proofs.SendingLemmas.{sheets_of-append, told-nothing}
+use Rattle.press_sink.proofs.SendingLemmas.{sheets_of-append}
 use Rattle.press_core.specs.declared.turn.TurnError.{TurnError}
 use Rattle.press_core.specs.declared.turn.TurnError.TheVariants as errors
 use Rattle.press_core.specs.Handing.{HandsOver, TakesSteps, handing}
 use Rattle.press_core.specs.Jobs.{Advances}
 use Rattle.press_core.specs.Turns.{IsJobOf, WereHandedOut, progress_in_job, sheets_from, steps_from}
-use Rattle.press_core.specs.Work.{Work, at_progress, counting, with_delivered, without_job}
+use Rattle.press_core.specs.Work.{Work, at_progress, counting, without_job}
 use Rattle.press_core.proofs.HandingLemmas.{counting-append, handed_twice}
 use Rattle.press_core.proofs.JobLemmas.{IsJobOf-some}
 
@@ -24,30 +23,7 @@ use Rattle.press_core.proofs.JobLemmas.{IsJobOf-some}
 -- steps, and then others
 pub sheets_from-more : (progress steps more : ℕ) (items : List StepResult)
     → sheets_from progress (steps + more) items ≡ sheets_from progress steps items ++ sheets_from (progress + steps) more items
-sheets_from-more progress steps more items =
-    let first = take steps (drop progress items) in
-    let others = take more (drop (progress + steps) items) in
-    let split : take (steps + more) (drop progress items) ≡ first ++ others =
-    take-add steps more (drop progress items) ∙ ap (λ cs. first ++ take more cs) (drop-drop steps progress items) in
-    ap (λ these. sheets_of (joined these)) split ∙ ap sheets_of (joined-append first others) ∙ sheets_of-append (joined first) (joined others)
-
-no_sheets : (progress : ℕ) (items : List StepResult) → sheets_from progress 0 items ≡ []
-no_sheets progress items = refl
-
--- ---- no step
-
-pub no_steps : (number : ℕ) (work : Work) (told : SheetLog) → IsSome work.progress → TakesSteps 0 work (Ok 0) work (handing number told told)
-no_steps number work told begun = record {
-  sheets = [];
-  steps = λ items job. (omega arith, sym (no_sheets (progress_in_job work) items));
-  left = at_progress_in_job work.progress refl begun;
-  were = record { told = told-nothing told.delivered; faults = refl };
-} where
-  at_progress_in_job : (o : Option ℕ) → work.progress ≡ o → IsSome o → work ≡ at_progress (progress_in_job work + 0) (with_delivered [] work)
-  at_progress_in_job None is begun = absurd (true≢false (sym begun))
-  at_progress_in_job (Some progress) is begun =
-      let here : Some (progress_in_job work + 0) ≡ work.progress = rw is (ap (λ n. Some n) (omega arith)) in
-      sym (ap (λ o. record work { progress = o }) here)
+sheets_from-more progress steps more items = grind (arith, take-add, drop-drop, joined-append, sheets_of-append)
 
 -- ---- a step
 
@@ -68,9 +44,7 @@ pub may_step : (work : Work) (over : Bool) → over ≡ false → IsSome work.pr
     → (IsSome work.progress → (items : List StepResult) → IsJobOf work items → over ≡ nat_eq (progress_in_job work) (length items))
     → (IsSome work.progress → (items : List StepResult) → IsJobOf work items → progress_in_job work ≤ length items)
     → (items : List StepResult) → IsJobOf work items → progress_in_job work < length items
-may_step work over going begun ends within items job =
-    let apart : nat_eq (progress_in_job work) (length items) ≡ false = sym (ends begun items job) ∙ going in
-    grind (arith, rules, apart, within begun items job)
+may_step work over going begun ends within items job = grind arith
 
 -- What a work handed out at its next step, as far as no fault came.
 record OneStep (number : ℕ) (old now next : Work) (taken : ℕ) (handed others : List PrintedSheet) : Type 0 where
@@ -97,25 +71,19 @@ one_step number taken old now next sheets result before between after count took
 -- the sheets of the steps so far, and of one more
 with_one : (progress taken : ℕ) (items : List StepResult) (sheets handed others : List PrintedSheet) → sheets ≡ sheets_from progress taken items
     → sheets_from (progress + taken) 1 items ≡ handed ++ others → sheets_from progress (taken + 1) items ≡ (sheets ++ handed) ++ others
-with_one progress taken items sheets handed others are here =
-    sheets_from-more progress taken 1 items ∙ ap (λ l. l ++ sheets_from (progress + taken) 1 items) (sym are)
-    ∙ ap (λ l. sheets ++ l) here ∙ sym (append_assoc sheets handed others)
+with_one progress taken items sheets handed others are here = grind (arith, sheets_from-more, append_assoc)
 
 -- what was handed out so far, and what of one step more
 handed_on : {A B : Type 0} (number : ℕ) (sheets handed : List PrintedSheet) (done : A) (result : Result B TurnError) (before between after : SheetLog)
     → WereHandedOut {A = A} (under_tag number sheets) (Ok done) before between → WereHandedOut (under_tag number handed) result between after
     → WereHandedOut (under_tag number (sheets ++ handed)) result before after
-handed_on number sheets handed done result before between after first second =
-    subst (λ l. WereHandedOut l result before after) (sym (map-append (λ (sheet : PrintedSheet). record { tag = number; sheet = sheet }) sheets handed))
-    (handed_twice (under_tag number sheets) (under_tag number handed) done result before between after first second)
+handed_on number sheets handed done result before between after first second = search (arith, map-append, handed_twice)
 
 -- the count after the sheets so far and those of a step
 counts_on : (number taken : ℕ) (old now next : Work) (sheets : List PrintedSheet) (result : Result (Unit {0}) TurnError) (before between after : SheetLog) (count : ℕ)
     → (took : TakesSteps taken old (Ok taken) now (handing number before between)) → (hands : HandsOver sheets result (handing number between after) next.delivered count)
     → next ≡ at_progress (progress_in_job old + taken + 1) now → count ≡ counting (took.sheets ++ hands.handed) old.delivered
-counts_on number taken old now next sheets result before between after count took hands is =
-    hands.count_is ∙ ap (λ (w : Work). counting hands.handed w.delivered) is ∙ ap (λ (w : Work). counting hands.handed w.delivered) took.left
-    ∙ sym (counting-append took.sheets hands.handed old.delivered)
+counts_on number taken old now next sheets result before between after count took hands is = grind (arith, counting-append)
 
 -- a step more
 pub one_more : (number taken : ℕ) (old now next : Work) (sheets : List PrintedSheet) (before between after : SheetLog) (count : ℕ)
@@ -128,12 +96,7 @@ one_more number taken old now next sheets before between after count took advanc
     let were = handed_on number took.sheets hands.handed taken (Ok tt) before between after took.were hands.were in
     record {
       sheets = took.sheets ++ hands.handed;
-      steps = λ items job.
-          let so_far = took.steps items job in (
-            omega (arith, so_far.0, step.within items job),
-            sym (append-nil (took.sheets ++ hands.handed)) ∙ ap (λ l. (took.sheets ++ hands.handed) ++ l) (sym hands.complete)
-                ∙ sym (with_one (progress_in_job old) taken items took.sheets hands.handed hands.others so_far.1 (step.here items job)),
-          );
+      steps = grind (arith, append-nil, with_one);
       left =
           ap (λ (w : Work). record w { delivered = count }) step.next_is
           ∙ ap (λ (w : Work). record w { delivered = count; progress = Some (progress_in_job old + taken + 1) }) took.left

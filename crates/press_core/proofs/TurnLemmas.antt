@@ -1,7 +1,7 @@
 -- Turns: the entry that an engine takes, and what its steps leave of the press.
-use Rattle.std.proofs.Common.{◌≡◌, ℕ, ◌+◌, slice_set, Bool, true, false, List, [], Option, Some, None, Result, Ok, Err, IfErr}
-use Rattle.std.proofs.Common.{IfSome, IsSome, not, IsTrue, MatchBool, OnErr, is_ok, is_some, nat_eq, nat_lt, if◌then◌else◌}
-use Rattle.std.proofs.Common.{length, option_and_then, ◌==◌, refl, sym, ap, subst, ◌∙◌, arith, rules, true≢false}
+use Rattle.std.proofs.Common.{◌≡◌, ℕ, ◌+◌, slice_set, Bool, true, false, List, [], Option, Some, None, Result, Ok, Err}
+use Rattle.std.proofs.Common.{IfSome, IsSome, not, IsTrue, OnErr, is_some, nat_eq, if◌then◌else◌}
+use Rattle.std.proofs.Common.{length, option_and_then, refl, sym, ap, subst, ◌∙◌, arith, rules, true≢false}
 use Rattle.std.specs.declared.alloc.AllocError.{AllocError}
 use Rattle.std.specs.List.{IsDistinct}
 use Rattle.std.specs.Map.{keys_of, lookup, set_value}
@@ -11,7 +11,7 @@ use Rattle.press_engine.specs.Machine.{StepResult}
 use Rattle.press_page.specs.Environment.{changed_by}
 use Rattle.press_queue.specs.declared.entry.Entry.{Entry}
 use Rattle.press_queue.specs.declared.status.End.{End}
-use Rattle.press_queue.specs.declared.status.End.TheVariants.{Completed, Aborted}
+use Rattle.press_queue.specs.declared.status.End.TheVariants.{Aborted}
 use Rattle.press_queue.specs.Entries.{entry_numbered, with_entry}
 use Rattle.press_queue.specs.Rows as rows
 use Rattle.press_queue.specs.State.{QueueState}
@@ -19,44 +19,31 @@ use Rattle.press_queue.specs.Status.{has_ended, is_running, is_waiting, status_a
 use Rattle.press_queue.proofs.FirstLemmas.{next_is_numbered}
 use Rattle.press_queue.proofs.StatusLemmas.{excluded}
 use Rattle.press_sink.specs.declared.delivery.Delivery.{Delivery}
-use Rattle.press_sink.specs.Sending.{under_tag}
 use Rattle.press_bits.specs.PrintedSheet.{PrintedSheet}
 use Rattle.press_sink.specs.SinkLog.{SheetLog}
 use Rattle.press_sink.proofs.SendingLemmas.{told-nothing}
 use Rattle.press_core.specs.declared.turn.Turn.{Turn}
 use Rattle.press_core.specs.declared.turn.TurnError.{TurnError}
-use Rattle.press_core.specs.declared.turn.TurnError.TheVariants.{NoEngine, SinkFault, NoMemory}
-use Rattle.press_core.specs.Engines.{are_engines, left_by}
+use Rattle.press_core.specs.declared.turn.TurnError.TheVariants.{NoMemory}
+use Rattle.press_core.specs.Engines.{left_by}
 use Rattle.press_core.specs.Handing.{IsAfterSteps, TakesSteps, handing}
 use Rattle.press_core.specs.Inside.{AreTogether, Begins, HasProgress, IsSound, begun_work, begun_works, with_begun}
-use Rattle.press_core.specs.Turns.{EntrySteps, FaultsAfter, IsJobOf, NamesEntry, StepsTo, TakesTurn, TakesTurnOn}
-use Rattle.press_core.specs.Turns.{TurnAt, WereHandedOut, aborted, after_steps, completed, is_idle, is_fault}
-use Rattle.press_core.specs.Turns.{progress_in_job, sheets_from, steps_from, steps_of, at_turn, at_turn_with, with_turn}
+use Rattle.press_core.specs.Turns.{EntrySteps, FaultsAfter, IsJobOf, NamesEntry, StepsTo, TakesTurn}
+use Rattle.press_core.specs.Turns.{TurnAt, WereHandedOut, aborted, after_steps, completed, is_idle}
+use Rattle.press_core.specs.Turns.{progress_in_job, steps_of, at_turn, at_turn_with, with_turn}
 use Rattle.press_core.specs.Work.{Work, at_progress, with_delivered, without_job}
-use Rattle.press_core.specs.World.{World, has_engine, off_engine, on_engine, works_without_job, with_queue, with_work, work_numbered}
+use Rattle.press_core.specs.World.{World, off_engine, on_engine, works_without_job, with_queue, with_work, work_numbered}
 use Rattle.press_core.proofs.EngineLemmas.{set-same}
-use Rattle.press_core.proofs.EntryLemmas.{set_lookup, set_twice, there_set}
+use Rattle.press_core.proofs.EntryLemmas.{SetsOne, own_lookup, set_lookup, set_twice, there_set}
 use Rattle.press_core.proofs.JobLemmas.{IsJobOf-some}
-use Rattle.press_core.proofs.SoundLemmas.{over_at_end, runs_as, some_not, still_at_end}
-use Rattle.press_core.proofs.WorkLemmas.{ended_entry, has_work, running_progress, set_both, set_work}
+use Rattle.press_core.proofs.SoundLemmas.{over_at_end, some_not, still_at_end}
+use Rattle.press_core.proofs.WorkLemmas.{ended_entry, has_work, set_both}
 
 -- ---- works of entries that run
 
 -- the work of an entry that runs stands at a place
 pub runs_placed : (number : ℕ) (queue : QueueState) (works : List (ℕ × Work)) → IsTrue (rows.entry_runs number queue) → IsSound queue works → HasProgress works number
-runs_placed number queue works runs sound =
-    let it = runs_as number queue runs in
-    let has = has_work queue works number it.entry it.there sound in
-    subst (λ o. IsSome (option_and_then (λ work. work.progress) o)) (sym has.is) (running_progress it.entry has.work it.runs has.together)
-
--- another that stands at a place may stand for it
-pub IsSound-placed : (number : ℕ) (queue : QueueState) (works : List (ℕ × Work)) (work : Work) → IsTrue (rows.entry_runs number queue) → IsSome work.progress
-    → ((was : Work) → lookup (nat_eq number) works ≡ Some was → work.kept ≡ was.kept) → IsSound queue works → IsSound queue (set_value (nat_eq number) works work)
-IsSound-placed number queue works work runs placed stays sound =
-    let it = runs_as number queue runs in
-    let has = has_work queue works number it.entry it.there sound in
-    let flies = sym has.together.in_flight ∙ running_progress it.entry has.work it.runs has.together in
-    set_work number queue works it.entry has.work work it.there has.is (record { in_flight = placed ∙ sym flies; kept = stays has.work has.is ∙ has.together.kept; begun = has.together.begun }) sound
+runs_placed number queue works runs sound = grind arith
 
 -- ---- an entry that begins
 
@@ -94,14 +81,17 @@ begun_is queue new number distinct is = at_held queue.held is
 
 -- so it did not run
 pub begun_still : (queue new : QueueState) (number : ℕ) → Waited queue new number → rows.entry_runs number queue ≡ false
-begun_still queue new number waited =
-    ap (λ o. option_map_or (λ entry. is_running entry.status) o false) waited.begins.there ∙ excluded is_waiting is_running refl waited.begins.entry.status waited.waited
+begun_still queue new number waited = grind arith
+
+pub begun-sets : (queue new : QueueState) (number : ℕ) → (begins : IsBegun queue new number) → SetsOne number (Some (rows.begun_entry begins.entry)) queue.entries new.entries
+begun-sets queue new number begins n = grind (arith, set_lookup)
+
+begun_there : (queue new : QueueState) (number : ℕ) → (begins : IsBegun queue new number) → entry_numbered number new.entries ≡ Some (rows.begun_entry begins.entry)
+begun_there queue new number begins = own_lookup number (Some (rows.begun_entry begins.entry)) queue.entries new.entries (begun-sets queue new number begins)
 
 -- it runs then
 pub begun_runs : (queue new : QueueState) (number : ℕ) → IsBegun queue new number → IsTrue (rows.entry_runs number new)
-begun_runs queue new number begins =
-    ap (λ (q : QueueState). rows.entry_runs number q) begins.is
-    ∙ ap (λ o. option_map_or (λ entry. is_running entry.status) o false) (there_set number queue.entries begins.entry (rows.begun_entry begins.entry) begins.there)
+begun_runs queue new number begins = ap (λ o. option_map_or (λ entry. is_running entry.status) o false) (begun_there queue new number begins)
 
 -- and has not ended, so its images are kept
 waited_kept : (queue new : QueueState) (number : ℕ) → (waited : Waited queue new number) → (work : Work) → AreTogether waited.begins.entry work → work.kept ≡ true
@@ -109,60 +99,30 @@ waited_kept queue new number waited work together = together.kept ∙ ap not (ex
 
 pub begun_kept : (queue new : QueueState) (works : List (ℕ × Work)) (number : ℕ) → Waited queue new number → IsSound queue works
     → IfSome (lookup (nat_eq number) works) (λ work. work.kept ≡ true)
-begun_kept queue new works number waited sound =
-    let has = has_work queue works number waited.begins.entry waited.begins.there sound in
-    subst (λ o. IfSome o (λ (work : Work). work.kept ≡ true)) (sym has.is) (waited_kept queue new number waited has.work has.together)
+begun_kept queue new works number waited sound = grind arith
 
 -- its work has begun
 begun_together : (entry : Entry) (work : Work) → work.kept ≡ true → AreTogether (rows.begun_entry entry) (begun_work work)
 begun_together entry work kept = record { in_flight = refl; kept = kept; begun = λ runs. refl }
 
 pub IsSound-begun : (queue new : QueueState) (works : List (ℕ × Work)) (number : ℕ) → Waited queue new number → IsSound queue works → IsSound new (begun_works number works)
-IsSound-begun queue new works number waited sound =
-    let begins = waited.begins in
-    let has = has_work queue works number begins.entry begins.there sound in
-    let works_are : begun_works number works ≡ set_value (nat_eq number) works (begun_work has.work) = ap (λ o. changed_by o (λ w all. set_value (nat_eq number) all (begun_work w)) works) has.is in
-    rw (works_are, begins.is)
-    (set_both number queue works begins.entry (rows.begun_entry begins.entry) has.work (begun_work has.work) begins.there has.is
-    (begun_together begins.entry has.work (waited_kept queue new number waited has.work has.together)) sound)
+IsSound-begun queue new works number waited sound = grind (arith, has_work, set_both, begun_together, waited_kept)
 
 -- ---- the entry that runs
 
--- its work, and that its job has begun
-pub placed_work : (number : ℕ) (works : List (ℕ × Work)) (o : Option Work) (work : Work) → HasProgress works number → lookup (nat_eq number) works ≡ o → o ≡ Some work → IsSome work.progress
-placed_work number works o work has is same =
-    sym (ap (λ o. is_some (option_and_then (λ work. work.progress) o)) (is ∙ same)) ∙ has
-
 -- the work of an entry that runs has begun before
 begun_progress : (work : Work) (o : Option ℕ) → work.progress ≡ o → IsSome o → begun_work work ≡ work
-begun_progress work None is placed = absurd (true≢false (sym placed))
-begun_progress work (Some progress) is placed =
-    let here : Some (progress_in_job work) ≡ work.progress = rw is refl in
-    ap (λ o. record work { progress = o }) here
+begun_progress work o is placed = grind arith
 
 pub begun_already : (number : ℕ) (works : List (ℕ × Work)) → HasProgress works number → begun_works number works ≡ works
-begun_already number works has = at_work (lookup (nat_eq number) works) refl
-  where
-    at_work : (o : Option Work) → lookup (nat_eq number) works ≡ o → begun_works number works ≡ works
-    at_work None is = rw is refl
-    at_work (Some work) is =
-        let placed : IsSome work.progress = sym (ap (λ o. is_some (option_and_then (λ work. work.progress) o)) is) ∙ has in
-        let same = begun_progress work work.progress refl placed in
-        rw is (ap (λ w. set_value (nat_eq number) works w) same ∙ set_value_same (nat_eq number) works work is)
+begun_already number works has = grind (arith, is_some, option_and_then, begun_progress, set_value_same)
 
 abbrev pub the_world : QueueState → Bool → List (ℕ × Work) → List (Option ℕ) → World
 the_world queue paused works engines = record { queue = queue; paused = paused; works = works; engines = engines }
 
 pub begins_running : (world : World) (engine number : ℕ) → on_engine engine world ≡ Some number → IsTrue (rows.entry_runs number world.queue) → IsSound world.queue world.works
     → Begins engine world (Ok (Some number)) world
-begins_running world engine number is runs sound =
-    let same : at_turn engine world ≡ (world.queue, Some number) = ap (λ o. at_turn_with o world.queue) is in (
-      ap (λ r. r.1) same,
-      sym (ap (λ r. the_world r.0 world.paused (begun_works number world.works) (slice_set world.engines engine r.1)) same
-          ∙ ap (λ works. the_world world.queue world.paused works (slice_set world.engines engine (Some number)))
-          (begun_already number world.works (runs_placed number world.queue world.works runs sound))
-          ∙ ap (λ engines. the_world world.queue world.paused world.works engines) (set-same world.engines engine (Some number) is)),
-    )
+begins_running world engine number is runs sound = grind (arith, slice_set, begun_already, runs_placed, set-same)
 
 begins_at : (world : World) (engine : ℕ) (new : QueueState) (o : Option ℕ) → on_engine engine world ≡ None → (new, o) ≡ rows.begin world.queue → at_turn engine world ≡ (new, o)
 begins_at world engine new o none is = ap (λ e. at_turn_with e world.queue) none ∙ sym is
@@ -170,63 +130,29 @@ begins_at world engine new o none is = ap (λ e. at_turn_with e world.queue) non
 -- no entry comes next
 pub begins_none : (world : World) (engine : ℕ) (new : QueueState) → on_engine engine world ≡ None → (new, None) ≡ rows.begin world.queue
     → Begins engine world (Ok None) (the_world new world.paused world.works world.engines)
-begins_none world engine new none is =
-    let same = begins_at world engine new None none is in (
-      ap (λ r. r.1) same,
-      sym (ap (λ r. the_world r.0 world.paused world.works (slice_set world.engines engine r.1)) same
-          ∙ ap (λ engines. the_world new world.paused world.works engines) (set-same world.engines engine None none)),
-    )
+begins_none world engine new none is = grind (arith, begins_at, slice_set, set-same)
 
 -- ---- an entry that ends as it begins
 
 pub ended_is : (queue new : QueueState) (number : ℕ) (end : End) → (begins : IsBegun queue new number)
     → rows.finish_entry number end new ≡ rows.with_entries (with_entry number (record begins.entry { status = status_at_end end; begun = true }) queue.entries) queue
-ended_is queue new number end begins =
-    let ended = record begins.entry { status = status_at_end end; begun = true } in
-    let there = ap (λ (q : QueueState). entry_numbered number q.entries) begins.is ∙ there_set number queue.entries begins.entry (rows.begun_entry begins.entry) begins.there in
-    ap (λ o. rows.finish_entry_at o number end new) there
-    ∙ ap (λ (q : QueueState). rows.set_status number (status_at_end end) (rows.begun_entry begins.entry) q) begins.is
-    ∙ ap (λ es. rows.with_entries es queue) (set_twice number queue.entries (rows.begun_entry begins.entry) ended)
+ended_is queue new number end begins = grind (arith, begun_there queue new number begins, set_twice)
 
 pub IsSound-given_up : (queue new : QueueState) (works : List (ℕ × Work)) (number : ℕ) (end : End) → IsBegun queue new number → IsSound queue works
     → IsSound (rows.finish_entry number end new) (works_without_job number works)
-IsSound-given_up queue new works number end begins sound =
-    let ended = record begins.entry { status = status_at_end end; begun = true } in
-    subst (λ q. IsSound q (works_without_job number works)) (sym (ended_is queue new number end begins))
-    (ended_entry number begins.entry ended queue (rows.with_entries (with_entry number ended queue.entries) queue) works begins.there
-    (over_at_end end) (still_at_end end) (λ n. set_lookup n number queue.entries ended (ap is_some begins.there)) sound)
+IsSound-given_up queue new works number end begins sound = grind (arith, ended_is, ended_entry, over_at_end, still_at_end, set_lookup, is_some)
 
 pub begins_given_up : (world : World) (engine number : ℕ) (new after : QueueState) (works : List (ℕ × Work)) (engines : List (Option ℕ)) (error : AllocError) → on_engine engine world ≡ None
     → IsDistinct nat_eq (keys_of world.queue.entries) → IsSound world.queue world.works → (new, Some number) ≡ rows.begin world.queue
     → after ≡ rows.finish_entry number Aborted new → works ≡ works_without_job number world.works → engines ≡ left_by number (slice_set world.engines engine (Some number))
     → Begins engine world (Err error) (the_world after world.paused works engines)
-begins_given_up world engine number new after works engines error none distinct sound is ends lands leaves = at_work (lookup (nat_eq number) world.works) refl
-  where
-    begins : IsBegun world.queue new number
-    begins = (begun_is world.queue new number distinct is).begins
-
-    at_work : (o : Option Work) → lookup (nat_eq number) world.works ≡ o → Begins engine world (Err error) (the_world after world.paused works engines)
-    at_work None there = let has = has_work world.queue world.works number begins.entry begins.there sound in absurd (some_not (sym there ∙ has.is))
-    at_work (Some work) there =
-        let same = begins_at world engine new (Some number) none is in
-        let works_are = lands ∙ ap (λ o. changed_by o (λ w all. set_value (nat_eq number) all (without_job w)) world.works) there in (
-          number,
-          work,
-          ap (λ r. r.1) same,
-          there,
-          ap (λ q. the_world q world.paused works engines) ends
-              ∙ ap (λ ws. the_world (rows.finish_entry number Aborted new) world.paused ws engines) works_are
-              ∙ ap (λ es. the_world (rows.finish_entry number Aborted new) world.paused (set_value (nat_eq number) world.works (without_job work)) es) leaves
-              ∙ sym (ap (λ r. the_world (rows.finish_entry number Aborted r.0) world.paused (set_value (nat_eq number) world.works (without_job work))
-              (left_by number (slice_set world.engines engine r.1))) same),
-        )
+begins_given_up world engine number new after works engines error none distinct sound is ends lands leaves =
+    grind (arith, begun_is world.queue new number, has_work, some_not, begins_at world engine new (Some number))
 
 -- a work that is given up after another stood for it
 pub without_job_set : (number : ℕ) (works : List (ℕ × Work)) (old work : Work) → lookup (nat_eq number) works ≡ Some old
     → works_without_job number (set_value (nat_eq number) works work) ≡ set_value (nat_eq number) works (without_job work)
-without_job_set number works old work there =
-    ap (λ o. changed_by o (λ w all. set_value (nat_eq number) all (without_job w)) (set_value (nat_eq number) works work)) (there_set number works old work there)
-    ∙ set_twice number works work (without_job work)
+without_job_set number works old work there = grind (arith, there_set, set_twice)
 
 -- ---- steps
 
@@ -234,21 +160,16 @@ without_job_set number works old work there =
 pub leaves_going : (world : World) (number steps : ℕ) (old new : Work) (sheets : List PrintedSheet) (items : List StepResult)
     → new ≡ at_progress (progress_in_job old + steps) (with_delivered sheets old)
     → nat_eq (progress_in_job new) (length items) ≡ false → with_work number new world ≡ after_steps number old items (Ok steps) sheets world
-leaves_going world number steps old new sheets items left going =
-    let e : (progress_in_job old + steps == length items) ≡ false = sym (ap (λ (w : Work). nat_eq (progress_in_job w) (length items)) left) ∙ going in
-    rw e (ap (λ (w : Work). with_work number w world) left)
+leaves_going world number steps old new sheets items left going = grind arith
 
 pub leaves_over : (world : World) (number steps : ℕ) (old new : Work) (sheets : List PrintedSheet) (items : List StepResult)
     → new ≡ at_progress (progress_in_job old + steps) (with_delivered sheets old)
     → nat_eq (progress_in_job new) (length items) ≡ true → completed number new world ≡ after_steps number old items (Ok steps) sheets world
-leaves_over world number steps old new sheets items left over =
-    let e : (progress_in_job old + steps == length items) ≡ true = sym (ap (λ (w : Work). nat_eq (progress_in_job w) (length items)) left) ∙ over in
-    rw e (ap (λ (w : Work). completed number w world) left)
+leaves_over world number steps old new sheets items left over = grind arith
 
 pub leaves_fault : (world : World) (number : ℕ) (error : TurnError) (old new : Work) (sheets : List PrintedSheet) (items : List StepResult) → without_job new ≡ without_job (with_delivered sheets old)
     → aborted number new world ≡ after_steps number old items (Err error) sheets world
-leaves_fault world number error old new sheets items left =
-    ap (λ (w : Work). record world { queue = rows.finish_entry number Aborted world.queue; works = set_value (nat_eq number) world.works w; engines = left_by number world.engines }) left
+leaves_fault world number error old new sheets items left = grind arith
 
 pub after_ok : (old new : Work) (result : Result ℕ TurnError) (steps : ℕ) (sheets : List PrintedSheet) → result ≡ Ok steps → IsAfterSteps old result sheets new
     → new ≡ at_progress (progress_in_job old + steps) (with_delivered sheets old)
@@ -262,59 +183,30 @@ after_err old new result error sheets is left = subst (λ r. IsAfterSteps old r 
 pub ended_world : (world : World) (number : ℕ) (end : End) (old new : Work) (queue : QueueState) (works : List (ℕ × Work)) (engines : List (Option ℕ)) → work_numbered number world ≡ Some old
     → queue ≡ rows.finish_entry number end world.queue → works ≡ works_without_job number (set_value (nat_eq number) world.works new) → engines ≡ left_by number world.engines
     → the_world queue world.paused works engines ≡ off_engine number (with_queue (rows.finish_entry number end world.queue) (with_work number (without_job new) world))
-ended_world world number end old new queue works engines there ends lands leaves =
-    ap (λ q. the_world q world.paused works engines) ends
-    ∙ ap (λ ws. the_world (rows.finish_entry number end world.queue) world.paused ws engines) (lands ∙ without_job_set number world.works old new there)
-    ∙ ap (λ es. the_world (rows.finish_entry number end world.queue) world.paused (set_value (nat_eq number) world.works (without_job new)) es) leaves
+ended_world world number end old new queue works engines there ends lands leaves = grind (arith, without_job_set)
 
 -- the steps of an entry, from those of its work
 pub entry_steps : (world : World) (number most : ℕ) (old new : Work) (result : Result ℕ TurnError) (before after : SheetLog) (next : World) → work_numbered number world ≡ Some old
     → (took : TakesSteps most old result new (handing number before after))
     → ((items : List StepResult) → IsJobOf old items → next ≡ after_steps number old items result took.sheets world)
     → (handed : List Delivery) × EntrySteps world number most result handed next × WereHandedOut handed result before after
-entry_steps world number most old new result before after next is took leaves =
-    let some = IsJobOf-some old in (
-      under_tag number took.sheets,
-      record {
-        work = old;
-        is_work = is;
-        items = some.0;
-        is_job = some.1;
-        sheets = took.sheets;
-        steps = took.steps some.0 some.1;
-        handed_are = refl;
-        after = leaves some.0 some.1;
-      },
-      took.were,
-    )
+entry_steps world number most old new result before after next is took leaves = grind (arith, IsJobOf-some old)
 
 -- an entry that has begun takes its steps from the place that it had
 ifs : {X : Type 0} (b : Bool) (x y v w : X) → x ≡ v → y ≡ w → (if b then x else y) ≡ (if b then v else w)
-ifs true x y v w p q = p
-ifs false x y v w p q = q
+ifs b x y v w p q = grind arith
 
 begun_again : (number : ℕ) (works : List (ℕ × Work)) (work other : Work) → lookup (nat_eq number) works ≡ Some work
     → set_value (nat_eq number) (begun_works number works) other ≡ set_value (nat_eq number) works other
-begun_again number works work other is =
-    ap (λ o. set_value (nat_eq number) (changed_by o (λ w all. set_value (nat_eq number) all (begun_work w)) works) other) is ∙ set_twice number works (begun_work work) other
+begun_again number works work other is = grind (arith, set_twice)
 
 after_begun : (world : World) (number : ℕ) (work : Work) (items : List StepResult) (result : Result ℕ TurnError) (sheets : List PrintedSheet) → work_numbered number world ≡ Some work
     → after_steps number (begun_work work) items result sheets (with_begun number world) ≡ after_steps number work items result sheets world
-after_begun world number work items (Ok steps) sheets is =
-    ifs (progress_in_job work + steps == length items) _ _ _ _
-    (ap (λ works.
-    record world { queue = rows.finish_entry number Completed world.queue; works = works; engines = left_by number world.engines })
-    (begun_again number world.works work (without_job (with_delivered sheets work)) is))
-    (ap (λ works. record world { works = works }) (begun_again number world.works work (at_progress (progress_in_job work + steps) (with_delivered sheets work)) is))
-after_begun world number work items (Err error) sheets is =
-    ap (λ works.
-    record world { queue = rows.finish_entry number Aborted world.queue; works = works; engines = left_by number world.engines })
-    (begun_again number world.works work (without_job (with_delivered sheets work)) is)
+after_begun world number work items result sheets is = grind (arith, ifs, begun_again)
 
 steps_begun : (work : Work) (items : List StepResult) (most : ℕ) (result : Result ℕ TurnError) (sheets : List PrintedSheet) → StepsTo (begun_work work) items most result sheets
     → StepsTo work items most result sheets
-steps_begun work items most (Ok steps) sheets took = took
-steps_begun work items most (Err error) sheets took = took
+steps_begun work items most result sheets took = grind arith
 
 same_some : (o : Option Work) (one other : Work) → o ≡ Some one → o ≡ Some other → one ≡ other
 same_some o one other p q = cc
@@ -324,9 +216,7 @@ pub steps_of_begun : (world next : World) (number most : ℕ) (result : Result �
 steps_of_begun world next number most result handed steps = at_work (work_numbered number world) refl
   where
     at_work : (o : Option Work) → work_numbered number world ≡ o → EntrySteps world number most result handed next
-    at_work None is =
-        let same = ap (λ o. changed_by o (λ w all. set_value (nat_eq number) all (begun_work w)) world.works) is in
-        absurd (true≢false (sym (sym (ap is_some is) ∙ ap (λ works. is_some (lookup (nat_eq number) works)) (sym same) ∙ ap is_some steps.is_work)))
+    at_work None is = grind (arith, true≢false)
     at_work (Some work) is =
         let works_are = ap (λ o. changed_by o (λ w all. set_value (nat_eq number) all (begun_work w)) world.works) is in
         let there = ap (λ works. lookup (nat_eq number) works) works_are ∙ there_set number world.works work (begun_work work) is in
@@ -354,60 +244,15 @@ turn_of world next engine most result handed works turn = rw works turn
 -- memory ran out as the entry began
 pub turn_stopped : (world next : World) (engine most : ℕ) (error : AllocError) → is_idle most world ≡ false → Begins engine world (Err error) next
     → TakesTurn world engine most (Err NoMemory) [] next
-turn_stopped world next engine most error works (number, work, is, there, after) =
-    let some = IsJobOf-some work in
-    turn_of world next engine most (Err NoMemory) [] works
-    (subst (λ o. TurnAt (with_turn engine world) o most (Err NoMemory) [] next) (sym is) (
-      tt,
-      record {
-        work = work;
-        is_work = there;
-        items = some.0;
-        is_job = some.1;
-        sheets = [];
-        steps = (sheets_from (progress_in_job work) (steps_from (progress_in_job work) most some.0) some.0, refl, refl);
-        handed_are = refl;
-        after = after;
-      },
-    ))
+turn_stopped world next engine most error works (number, work, is, there, after) = grind (arith, IsJobOf-some work, turn_of world next engine most (Err NoMemory))
 
 -- an entry that began, or ran before, took steps
 pub turn_taken : (world begun next : World) (engine number most : ℕ) (result : Result Turn TurnError) (handed : List Delivery) → is_idle most world ≡ false
     → Begins engine world (Ok (Some number)) begun → NamesEntry result number → EntrySteps begun number most (steps_of result) handed next
     → TakesTurn world engine most result handed next
-turn_taken world begun next engine number most result handed works begins names steps =
-    turn_of world next engine most result handed works
-    (subst (λ o. TurnAt (with_turn engine world) o most result handed next) (sym begins.0) (
-      names,
-      steps_of_begun (with_turn engine world) next number most (steps_of result) handed
-          (subst (λ (w : World). EntrySteps w number most (steps_of result) handed next) begins.1 steps),
-    ))
-
--- an error of a turn of an engine that there is, is a fault
-pub turn_fault : (world next : World) (engine most : ℕ) (result : Result Turn TurnError) (handed : List Delivery) → TakesTurn world engine most result handed next
-    → IfErr result (λ error. IsTrue (is_fault error))
-turn_fault world next engine most (Ok turn) handed takes = tt
-turn_fault world next engine most (Err error) handed takes = at_idle (is_idle most world) takes
-  where
-    at_entry : (w : World) (o : Option ℕ) → TurnAt w o most (Err error) handed next → IsTrue (is_fault error)
-    at_entry w None turn = absurd (true≢false (sym (ap is_ok turn.0)))
-    at_entry w (Some number) turn = turn.1.steps.2
-
-    at_idle : (b : Bool) → MatchBool b (TurnAt world None most (Err error) handed next) (TurnAt (with_turn engine world) (at_turn engine world).1 most (Err error) handed next)
-        → IsTrue (is_fault error)
-    at_idle true turn = at_entry world None turn
-    at_idle false turn = at_entry (with_turn engine world) (at_turn engine world).1 turn
+turn_taken world begun next engine number most result handed works begins names steps = grind (arith, turn_of, steps_of_begun)
 
 -- there is a first engine
-pub first_engine : (count : ℕ) → are_engines count ≡ true → nat_lt 0 count ≡ true
-first_engine count are = grind (arith, rules, are)
-
-pub turn_on_fault : (world next : World) (engine most : ℕ) (result : Result Turn TurnError) (handed : List Delivery) → has_engine engine world ≡ true
-    → TakesTurnOn world engine most result handed next → IfErr result (λ error. IsTrue (is_fault error))
-turn_on_fault world next engine most result handed there turn =
-    turn_fault world next engine most result handed
-    (subst (λ b. MatchBool b (TakesTurn world engine most result handed next) ((result ≡ Err NoEngine) × (handed ≡ []) × (next ≡ world))) there turn)
-
 pub nothing_handed : {A : Type 0} (result : Result A TurnError) (told : SheetLog) → FaultsAfter result told.faults told.faults → WereHandedOut [] result told told
 nothing_handed result told faults = record { told = told-nothing told.delivered; faults = faults }
 
@@ -415,10 +260,7 @@ pub begins_some : (world begun : World) (engine : ℕ) (entry : Option ℕ) (num
 begins_some world begun engine entry number is begins = subst (λ o. Begins engine world (Ok o) begun) is begins
 
 pub fault_of_turn : (A B : Type 0) (error : TurnError) (before after : ℕ) → FaultsAfter {A = A} (Err error) before after → FaultsAfter {A = B} (Err error) before after
-fault_of_turn A B NoEngine before after faults = faults
-fault_of_turn A B SinkFault before after faults = faults
-fault_of_turn A B NoMemory before after faults = faults
+fault_of_turn A B error before after faults = grind arith
 
 pub on_err_of : {A E P Q : Type 0} (r : Result A E) → (P → Q) → OnErr r P → OnErr r Q
-on_err_of (Ok a) f p = tt
-on_err_of (Err e) f p = f p
+on_err_of r f p = grind arith

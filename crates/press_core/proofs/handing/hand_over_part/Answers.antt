@@ -1,6 +1,6 @@
 use Rattle.std.proofs.Common.{sym, subst}
 use Rattle.press_core.specs.Handing.{HandsOver, handing}
-use Rattle.press_core.proofs.HandingLemmas.{HandsOver-none, sheets_of-copies}
+use Rattle.press_core.proofs.HandingLemmas.{sheets_of-copies}
 use Rattle.press_core.proofs.handing.hand_over_part.Goals as goal
 
 pub returns-in-Sheet : goal.returns-in-Sheet
@@ -12,6 +12,3 @@ returns-in-Sheet g c =
     (handing c.args.number (g.S.SheetSink.told c.args.sink.now) (g.S.SheetSink.told c.hand_over_copies.new.sink))
     c.args.delivered.now c.hand_over_copies.new.delivered)
     (sym (sheets_of-copies finished.sheet finished.copies finished.since_job)) c.hand_over_copies.ensures)
-
-pub returns-in-Reply : goal.returns-in-Reply
-returns-in-Reply g c = rw c.in-Reply.is (HandsOver-none c.args.number (g.S.SheetSink.told c.args.sink.now) c.args.delivered.now)

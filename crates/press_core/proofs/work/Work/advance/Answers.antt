@@ -6,7 +6,7 @@ use Rattle.press_sink.specs.Sending.{sheets_of}
 use Rattle.press_core.specs.Jobs.{Advances, IsAt, JobGoesOn}
 use Rattle.press_core.specs.Turns.{IsJobOf, progress_in_job}
 use Rattle.press_core.specs.Work.{Work, at_progress}
-use Rattle.press_core.proofs.StandLemmas.{may_go_on, advances, on_err, same_images}
+use Rattle.press_core.proofs.StandLemmas.{may_go_on, advances, same_images}
 use Rattle.press_core.proofs.work.Work.advance.Goals as goal
 
 pub step-requires : goal.step-requires
@@ -19,9 +19,6 @@ step-requires c =
           (may_go_on (work_of c.self.inside) c.self.inside.running c.in-Some.running (sym c.take.ensures.value ∙ c.in-Some.is) refl c.self.invariant.stands
           (subst (λ (w : Work). (items : List StepResult) → IsJobOf w items → progress_in_job w < length items) (sym c.self.view_is) c.requires.going));
     }
-
-pub returns-in_err-sent-clause-err : goal.returns-in_err-sent-clause-err
-returns-in_err-sent-clause-err c = on_err c.from_residual.result (rw (c.take.ensures.after, c.take-2.ensures.after, ← c.self.view_is) refl)
 
 pub returns-clause-ok : goal.returns-clause-ok
 returns-clause-ok c =
