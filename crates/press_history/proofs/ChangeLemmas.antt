@@ -1,234 +1,160 @@
 -- What the rows of a queue, and what follows for the works, make of each number.
-use Rattle.std.proofs.Common.{◌≡◌, ◌+◌, ◌++◌, ℕ, nat_le, nat_eq, cond, Bool, true, false}
-use Rattle.std.proofs.Common.{List, [], ◌∷◌, Option, Some, None, is_some}
+use Rattle.std.proofs.Common.{◌≡◌, ◌+◌, ℕ, nat_le, nat_eq, cond, Bool, true, false, List, Option, Some, None, is_some}
 use Rattle.std.proofs.Common.{◌⊎◌, inl, inr, refl, sym, ap, subst, ◌∙◌, arith, rules, true≢false}
-use Rattle.std.specs.Map.{lookup, set_value}
+use Rattle.std.specs.Map.{lookup}
 use Rattle.std.proofs.lemmas.Bool.{eqb-true}
-use Rattle.std.proofs.lemmas.Cmp.{nat_eq_equiv}
-use Rattle.std.proofs.lemmas.Map.Entries.{lookup-filter-values, option_filter}
 use Rattle.press_bits.specs.Page.{Page}
 use Rattle.press_queue.specs.declared.command.EntryCommand.{EntryCommand}
 use Rattle.press_queue.specs.declared.entry.Entry.{Entry}
-use Rattle.press_queue.specs.Entries.{entry_numbered, place_of, put, with_entry}
+use Rattle.press_queue.specs.Entries.{entry_numbered, place_of, put}
 use Rattle.press_queue.specs.Rows as rows
 use Rattle.press_queue.specs.State.{QueueState}
-use Rattle.press_queue.specs.Status.{is_running, new_entry}
-use Rattle.press_bits.specs.PrintedSheet.{PrintedSheet}
+use Rattle.press_queue.specs.Status.{new_entry}
 use Rattle.press_ticket.specs.Ticket.{JobTicket}
 use Rattle.press_core.specs.Work.{IsPrintable, Work, new_work, without_job}
-use Rattle.press_core.specs.World.{Consequence, NothingElse, OffEngine, GivenUp, Forgotten, consequence, works_after, works_listed, works_without_job}
+use Rattle.press_core.specs.World.{Consequence, NothingElse, OffEngine, GivenUp, Forgotten, World, consequence, engines_after, with_new_work, with_queue, without_gone, works_after}
 use Rattle.press_core.proofs.AbortLemmas.{aborted_entry}
-use Rattle.press_core.proofs.CommandLemmas.{Became, Follows, Stands, fewer}
-use Rattle.press_core.proofs.EntryLemmas.{added_lookup, inserted_lookup, kept_lookup, set_lookup}
-use Rattle.press_core.proofs.SoundLemmas.{kept_work}
+use Rattle.press_core.proofs.CommandLemmas.{Became, Follows, fewer}
+use Rattle.press_core.proofs.CommandLemmas as core
+use Rattle.press_core.proofs.EntryLemmas.{SetsOne, added_lookup, inserted_lookup, kept_lookup, other_lookup, own_lookup, set_lookup}
+use Rattle.press_core.proofs.SoundLemmas.{flushed, kept_work}
 use Rattle.press_core.proofs.WorkLemmas.{without_job_is}
-use Rattle.press_history.proofs.Standings.{Change, Stays, Enters, Moves, Aborts, Leaves, IsIdle, IsOpen, IsProper, IsWhole, Listed}
-use Rattle.press_history.proofs.Standings.{MayStand, Unknown, listed_is, listed_of, standing, standing_of, unknown_of}
+use Rattle.press_history.proofs.Standings.{AreProper, Aborts, Change, Done, Enters, GoesOn, IsIdle, IsWhole, Leaves, Standing, Stays}
+use Rattle.press_history.proofs.Standings.{idle, listed, listed_in, no_steps, nothing, standing, stands, unlisted}
 
-pub idle : IsIdle [] 0
-idle = record { no_sheets = refl; no_steps = refl }
+-- ---- one number
 
--- ---- one entry changes
-
--- the queue has this entry under this number, and the others as before
-pub record SetsEntry (old new : QueueState) (number : ℕ) (entry : Entry) : Type 0 where
-  pub last : new.last ≡ old.last
-  pub entries : (n : ℕ) → entry_numbered n new.entries ≡ cond (nat_eq number n) (Some entry) (entry_numbered n old.entries)
-
--- so are the works
-abbrev pub SetsWork : (old new : List (ℕ × Work)) → (number : ℕ) → Work → Type 0
-SetsWork old new number work = (n : ℕ) → lookup (nat_eq n) new ≡ cond (nat_eq number n) (Some work) (lookup (nat_eq n) old)
-
--- another number stands as before
-stands-apart : (old new : QueueState) (works after : List (ℕ × Work)) (number : ℕ) (is : Entry) (left : Work) → SetsEntry old new number is → SetsWork works after number left
-    → (n : ℕ) → nat_eq number n ≡ false → standing n new after ≡ standing n old works
-stands-apart old new works after number is left entry_set work_set n apart =
-    let given : nat_le n new.last ≡ nat_le n old.last = ap (λ l. nat_le n l) entry_set.last in
-    let entry_is : entry_numbered n new.entries ≡ entry_numbered n old.entries = entry_set.entries n ∙ ap (λ b. cond b (Some is) (entry_numbered n old.entries)) apart in
-    let work_is : lookup (nat_eq n) after ≡ lookup (nat_eq n) works = work_set n ∙ ap (λ b. cond b (Some left) (lookup (nat_eq n) works)) apart in
-    (λ j. standing_of (given j) (entry_is j) (work_is j))
-
--- what happens to each number, where one entry and its work change
-pub one-changes : (submits : Option (JobTicket × List Page)) (old new : QueueState) (works after : List (ℕ × Work)) (number : ℕ)
-    (was is : Entry) (work left : Work) (sheets : List PrintedSheet) (steps : ℕ) (failed : Bool)
-    → standing number old works ≡ Listed was work → SetsEntry old new number is → SetsWork works after number left
-    → (n : ℕ) → (nat_eq number n ≡ true → Change submits (Listed was work) (Listed is left) sheets steps failed) → (nat_eq number n ≡ false → IsIdle sheets steps)
-    → Change submits (standing n old works) (standing n new after) sheets steps failed
-one-changes submits old new works after number was is work left sheets steps failed there entry_set work_set n changes idle = at (nat_eq number n) refl
+-- What happens to each number, where what stands under one is another.
+pub one-changes : (number : ℕ) (old new : World) (entry : Option Entry) (work : Option Work) (done : ℕ → Done) (own : Done) → done number ≡ own
+    → SetsOne number entry old.queue.entries new.queue.entries → SetsOne number work old.works new.works
+    → ((n : ℕ) → nat_eq number n ≡ false → (nat_le n new.queue.last ≡ nat_le n old.queue.last) × IsIdle (done n))
+    → (standing number new ≡ stands (nat_le number new.queue.last) entry work → Change own (standing number old) (standing number new))
+    → (n : ℕ) → Change (done n) (standing n old) (standing n new)
+one-changes number old new entry work done own own_is entries works others changes n = at (nat_eq number n) refl
   where
-    listed : nat_le number old.last ≡ true
-    listed = (listed_is (nat_le number old.last) (entry_numbered number old.entries) (lookup (nat_eq number) works) was work there).given_is
-
-    at : (b : Bool) → nat_eq number n ≡ b → Change submits (standing n old works) (standing n new after) sheets steps failed
+    at : (b : Bool) → nat_eq number n ≡ b → Change (done n) (standing n old) (standing n new)
     at true same =
-        let here : number ≡ n = eqb-true number n same in
-        let before : standing n old works ≡ Listed was work = subst (λ m. standing m old works ≡ Listed was work) here there in
-        let given : nat_le n new.last ≡ true = ap (λ l. nat_le n l) entry_set.last ∙ subst (λ m. nat_le m old.last ≡ true) here listed in
-        let entry_is : entry_numbered n new.entries ≡ Some is = entry_set.entries n ∙ ap (λ b. cond b (Some is) (entry_numbered n old.entries)) same in
-        let work_is : lookup (nat_eq n) after ≡ Some left = work_set n ∙ ap (λ b. cond b (Some left) (lookup (nat_eq n) works)) same in
-        let now : standing n new after ≡ Listed is left = λ j. standing_of (given j) (entry_is j) (work_is j) in
-        subst (λ s. Change submits s (standing n new after) sheets steps failed) (sym before)
-        (subst (λ s. Change submits (Listed was work) s sheets steps failed) (sym now) (changes same))
-    at false apart = Stays (stands-apart old new works after number is left entry_set work_set n apart) (idle apart)
-
--- an entry is set in its place
-pub set-entry : (queue : QueueState) (number : ℕ) (was is : Entry) → entry_numbered number queue.entries ≡ Some was
-    → SetsEntry queue (rows.with_entries (with_entry number is queue.entries) queue) number is
-set-entry queue number was is there = record { last = refl; entries = λ n. set_lookup n number queue.entries is (ap is_some there) }
-
--- a work is set in its place
-pub set-work : (works : List (ℕ × Work)) (number : ℕ) (work left : Work) → lookup (nat_eq number) works ≡ Some work → SetsWork works (set_value (nat_eq number) works left) number left
-set-work works number work left there n = set_lookup n number works left (ap is_some there)
-
--- a work stays
-pub same-work : (works : List (ℕ × Work)) (number : ℕ) (work : Work) → lookup (nat_eq number) works ≡ Some work → SetsWork works works number work
-same-work works number work there n = kept_lookup n number works ∙ ap (λ o. cond (nat_eq number n) o (lookup (nat_eq n) works)) there
-
--- ---- commands to one entry
-
--- an entry stands for another that has not ended
-entry-moves : (submits : Option (JobTicket × List Page)) (old new : QueueState) (works : List (ℕ × Work)) (number : ℕ) (was is : Entry)
-    → IsWhole old works → entry_numbered number old.entries ≡ Some was → SetsEntry old new number is → Stands was is
-    → (n : ℕ) → Change submits (standing n old works) (standing n new works) [] 0 false
-entry-moves submits old new works number was is whole there set stands n =
-    let listed = listed_of (nat_le number old.last) (entry_numbered number old.entries) (lookup (nat_eq number) works) was (whole.proper number) there in
-    let of = listed_is (nat_le number old.last) (entry_numbered number old.entries) (lookup (nat_eq number) works) was listed.0 listed.1 in
-    let may : MayStand was is = record { was = stands.was; is = stands.is; begun = stands.begun; runs = λ runs. absurd (true≢false (sym runs ∙ stands.still)) } in
-    one-changes submits old new works works number was is listed.0 listed.0 [] 0 false listed.1 set (same-work works number listed.0 of.work_is) n
-    (λ _. Moves was is listed.0 may refl refl idle) (λ _. idle)
-
--- an entry is aborted, and its work is without its job
-entry-aborts : (submits : Option (JobTicket × List Page)) (old new : QueueState) (works : List (ℕ × Work)) (number : ℕ) (was : Entry)
-    → IsWhole old works → entry_numbered number old.entries ≡ Some was → SetsEntry old new number (aborted_entry was) → IsOpen was
-    → (n : ℕ) → Change submits (standing n old works) (standing n new (works_without_job number works)) [] 0 false
-entry-aborts submits old new works number was whole there set is_open n =
-    let listed = listed_of (nat_le number old.last) (entry_numbered number old.entries) (lookup (nat_eq number) works) was (whole.proper number) there in
-    let of = listed_is (nat_le number old.last) (entry_numbered number old.entries) (lookup (nat_eq number) works) was listed.0 listed.1 in
-    one-changes submits old new works (works_without_job number works) number was (aborted_entry was) listed.0 (without_job listed.0) [] 0 false listed.1 set
-    (subst (λ ws. SetsWork works ws number (without_job listed.0)) (sym (without_job_is number works listed.0 of.work_is))
-    (set-work works number listed.0 (without_job listed.0) of.work_is)) n
-    (λ _. Aborts was listed.0 is_open refl refl idle) (λ _. idle)
+        subst (λ m. Change (done m) (standing m old) (standing m new)) (eqb-true number n same)
+        (subst (λ d. Change d (standing number old) (standing number new)) (sym own_is)
+        (changes (λ j. stands (nat_le number new.queue.last)
+        (own_lookup number entry old.queue.entries new.queue.entries entries j) (own_lookup number work old.works new.works works j))))
+    at false apart =
+        let rest = others n apart in
+        Stays (λ j. stands (rest.0 j) (other_lookup number entry old.queue.entries new.queue.entries entries n apart j)
+        (other_lookup number work old.works new.works works n apart j)) rest.1
 
 -- ---- entries that leave the list
 
-no-entry : (submits : Option (JobTicket × List Page)) (given : Bool) (o : Option Entry) (p : Option Work)
-    → IsProper (standing_of given o p) → Change submits (standing_of given o p) (standing_of given None None) [] 0 false
-no-entry submits true (Some entry) (Some work) proper = Leaves entry work refl refl idle
-no-entry submits true (Some entry) None proper = absurd proper
-no-entry submits true None (Some work) proper = absurd proper
-no-entry submits true None None proper = Stays refl idle
-no-entry submits false (Some entry) p proper = absurd proper
-no-entry submits false None (Some work) proper = absurd proper
-no-entry submits false None None proper = Stays refl idle
+gone-one : (given : Bool) (o q : Option Entry) (p : Option Work) → AreProper given o p → (q ≡ None) ⊎ (q ≡ o)
+    → Change (nothing None) (stands given o p) (stands given q (cond (is_some q) p None))
+gone-one given (Some e) q (Some w) proper (inl none) =
+    Leaves e w (λ j. stands (proper.0 j) (Some e) (Some w)) (λ j. stands (proper.0 j) (none j) (cond (is_some (none j)) (Some w) None)) (idle None)
+gone-one given (Some e) q (Some w) proper (inr same) = Stays (λ j. stands given (same j) (cond (is_some (same j)) (Some w) None)) (idle None)
+gone-one given None q None proper (inl none) = Stays (λ j. stands given (none j) (cond (is_some (none j)) None None)) (idle None)
+gone-one given None q None proper (inr none) = Stays (λ j. stands given (none j) (cond (is_some (none j)) None None)) (idle None)
+gone-one given (Some e) q None proper less = absurd proper
+gone-one given None q (Some w) proper less = absurd proper
 
 -- where fewer are listed, with what they were, the works of the others go
-pub gone-changes : (submits : Option (JobTicket × List Page)) (old new : QueueState) (works : List (ℕ × Work)) → IsWhole old works → new.last ≡ old.last
-    → ((n : ℕ) → (entry_numbered n new.entries ≡ None) ⊎ (entry_numbered n new.entries ≡ entry_numbered n old.entries))
-    → (n : ℕ) → Change submits (standing n old works) (standing n new (works_listed new works)) [] 0 false
-gone-changes submits old new works whole last less n = at (less n)
-  where
-    given : nat_le n new.last ≡ nat_le n old.last
-    given = ap (λ l. nat_le n l) last
+gone-changes : (world : World) (new : QueueState) → IsWhole world → new.last ≡ world.queue.last
+    → ((n : ℕ) → (entry_numbered n new.entries ≡ None) ⊎ (entry_numbered n new.entries ≡ entry_numbered n world.queue.entries))
+    → (n : ℕ) → Change (nothing None) (standing n world) (standing n (without_gone (with_queue new world)))
+gone-changes world new whole last less n =
+    subst (λ s. Change (nothing None) (standing n world) s) (λ j. stands (nat_le n (sym last j)) (entry_numbered n new.entries) (sym (kept_work new world.works n) j))
+    (gone-one (nat_le n world.queue.last) (entry_numbered n world.queue.entries) (entry_numbered n new.entries) (lookup (nat_eq n) world.works) (whole.proper n) (less n))
 
-    gone : entry_numbered n new.entries ≡ None → Change submits (standing n old works) (standing n new (works_listed new works)) [] 0 false
-    gone none =
-        let work_is : lookup (nat_eq n) (works_listed new works) ≡ None = kept_work new works n ∙ ap (λ o. cond (is_some o) (lookup (nat_eq n) works) None) none in
-        let now : standing n new (works_listed new works) ≡ standing_of (nat_le n old.last) None None = λ j. standing_of (given j) (none j) (work_is j) in
-        subst (λ s. Change submits (standing n old works) s [] 0 false) (sym now)
-        (no-entry submits (nat_le n old.last) (entry_numbered n old.entries) (lookup (nat_eq n) works) (whole.proper n))
+pub flush-changes : (world : World) → IsWhole world → (n : ℕ) → Change (nothing None) (standing n world) (standing n (without_gone (with_queue (rows.flush world.queue) world)))
+flush-changes world whole = gone-changes world (rows.flush world.queue) whole refl (flushed world.queue whole.queue.distinct)
 
-    kept : (o : Option Entry) → entry_numbered n old.entries ≡ o → entry_numbered n new.entries ≡ o → Change submits (standing n old works) (standing n new (works_listed new works)) [] 0 false
-    kept None before now = gone now
-    kept (Some entry) before now =
-        let work_is : lookup (nat_eq n) (works_listed new works) ≡ lookup (nat_eq n) works = kept_work new works n ∙ ap (λ o. cond (is_some o) (lookup (nat_eq n) works) None) now in
-        let same : entry_numbered n new.entries ≡ entry_numbered n old.entries = now ∙ sym before in
-        Stays (λ j. standing_of (given j) (same j) (work_is j)) idle
+-- ---- commands to one entry
 
-    at : (entry_numbered n new.entries ≡ None) ⊎ (entry_numbered n new.entries ≡ entry_numbered n old.entries)
-        → Change submits (standing n old works) (standing n new (works_listed new works)) [] 0 false
-    at (inl none) = gone none
-    at (inr same) = kept (entry_numbered n old.entries) refl same
+module _ (number : ℕ) (world : World) (new : QueueState) (whole : IsWhole world) (last : new.last ≡ world.queue.last) where
+  -- the world with this queue, and these works and engines
+  abbrev behind : List (ℕ × Work) → List (Option ℕ) → World
+  behind works engines = record world { queue = new; works = works; engines = engines }
 
--- a command that was carried out, and what follows of it
-pub commanded-changes : (submits : Option (JobTicket × List Page)) (command : EntryCommand) (number : ℕ) (queue new : QueueState) (works : List (ℕ × Work)) → IsWhole queue works
-    → Became command number queue new
-    → (n : ℕ) → Change submits (standing n queue works) (standing n new (works_after (consequence command) number new works)) [] 0 false
-commanded-changes submits command number queue new works whole it = by (consequence command) it.now it.follows it.set
-  where
-    by : (what : Consequence) (now : Option Entry) → Follows what it.entry now
-        → ((n : ℕ) → entry_numbered n new.entries ≡ cond (nat_eq number n) now (entry_numbered n queue.entries))
-        → (n : ℕ) → Change submits (standing n queue works) (standing n new (works_after what number new works)) [] 0 false
-    by NothingElse (Some is) f set = entry-moves submits queue new works number it.entry is whole it.there (record { last = it.last; entries = set }) f.0
-    by OffEngine (Some is) f set = entry-moves submits queue new works number it.entry is whole it.there (record { last = it.last; entries = set }) f
-    by GivenUp (Some is) f set =
-        entry-aborts submits queue new works number it.entry whole it.there
-        (subst (λ e. SetsEntry queue new number e) f.0 (record { last = it.last; entries = set })) f.1
-    by Forgotten None f set = gone-changes submits queue new works whole it.last (λ n. fewer number n _ _ (set n))
-    by NothingElse None f set = absurd f
-    by OffEngine None f set = absurd f
-    by GivenUp None f set = absurd f
-    by Forgotten (Some is) f set = absurd f
+  -- one entry and its work change
+  entry-changes : (was is : Entry) (left : Work → Work) (works : List (ℕ × Work)) (engines : List (Option ℕ)) → entry_numbered number world.queue.entries ≡ Some was
+      → SetsOne number (Some is) world.queue.entries new.entries
+      → ((work : Work) → lookup (nat_eq number) world.works ≡ Some work → SetsOne number (Some (left work)) world.works works)
+      → ((work : Work) (before after : Standing) → before ≡ listed was work → after ≡ listed is (left work) → Change (nothing None) before after)
+      → (n : ℕ) → Change (nothing None) (standing n world) (standing n (behind works engines))
+  entry-changes was is left works engines there entries sets change =
+      let before = listed_in number world was whole there in
+      one-changes number world (behind works engines) (Some is) (Some (left before.0)) (λ n. nothing None) (nothing None) refl entries
+      (sets before.0 (ap (λ (s : Standing). s.work) before.1)) (λ n apart. (ap (nat_le n) last, idle None))
+      (λ now. change before.0 (standing number world) (standing number (behind works engines)) before.1
+      (now ∙ (λ j. stands ((ap (nat_le number) last ∙ ap (λ (s : Standing). s.given) before.1) j) (Some is) (Some (left before.0)))))
 
-filtered : {X : Type 0} (p : X → Bool) (o : Option X) → (option_filter p o ≡ None) ⊎ (option_filter p o ≡ o)
-filtered p None = inl refl
-filtered p (Some x) = at (p x) refl
-  where
-    at : (b : Bool) → p x ≡ b → (option_filter p (Some x) ≡ None) ⊎ (option_filter p (Some x) ≡ Some x)
-    at true is = inr (grind (rules, is))
-    at false is = inl (grind (rules, is))
+  -- an entry stands for another
+  entry-moves : (was is : Entry) (engines : List (Option ℕ)) → entry_numbered number world.queue.entries ≡ Some was → SetsOne number (Some is) world.queue.entries new.entries
+      → core.Stands was is → (n : ℕ) → Change (nothing None) (standing n world) (standing n (behind world.works engines))
+  entry-moves was is engines there entries may =
+      entry-changes was is (λ work. work) world.works engines there entries
+      (λ work here. kept_lookup number (Some work) world.works here)
+      (λ work before after was_is is_now.
+      let none = no_steps work None in
+      GoesOn was is work work.progress none.0
+      (record {
+        was_open = may.was;
+        is_open = may.is;
+        runs = λ runs. absurd (true≢false (sym runs ∙ may.still));
+        begun = λ e. may.begun ∙ e;
+        unbegun = λ e. (sym may.begun ∙ e, refl);
+        place = omega arith;
+        well = refl;
+      })
+      none.1 was_is is_now)
 
-either_as : {X : Type 0} (p q o : Option X) → p ≡ q → (q ≡ None) ⊎ (q ≡ o) → (p ≡ None) ⊎ (p ≡ o)
-either_as p q o is (inl none) = inl (is ∙ none)
-either_as p q o is (inr same) = inr (is ∙ same)
-
-pub flush-changes : (submits : Option (JobTicket × List Page)) (queue : QueueState) (works : List (ℕ × Work)) → IsWhole queue works
-    → (n : ℕ) → Change submits (standing n queue works) (standing n (rows.flush queue) (works_listed (rows.flush queue) works)) [] 0 false
-flush-changes submits queue works whole =
-    gone-changes submits queue (rows.flush queue) works whole refl
-    (λ n. either_as _ _ _ (lookup-filter-values nat_eq_equiv (λ entry. is_running entry.status) n queue.entries whole.queue_is.distinct)
-    (filtered (λ entry. is_running entry.status) (entry_numbered n queue.entries)))
+  -- a command that was carried out, and what follows of it
+  pub commanded-changes : (command : EntryCommand) → Became command number world.queue new
+      → (n : ℕ) → Change (nothing None) (standing n world) (standing n (behind (works_after (consequence command) number new world.works) (engines_after (consequence command) number world.engines)))
+  commanded-changes command it = by (consequence command) it.now it.follows it.set
+    where
+      by : (what : Consequence) (now : Option Entry) → Follows what it.entry now → SetsOne number now world.queue.entries new.entries
+          → (n : ℕ) → Change (nothing None) (standing n world) (standing n (behind (works_after what number new world.works) (engines_after what number world.engines)))
+      by NothingElse (Some is) f set = entry-moves it.entry is world.engines it.there set f.0
+      by OffEngine (Some is) f set = entry-moves it.entry is (engines_after OffEngine number world.engines) it.there set f
+      by GivenUp (Some is) f set =
+          entry-changes it.entry (aborted_entry it.entry) without_job (works_after GivenUp number new world.works) (engines_after GivenUp number world.engines)
+          it.there (subst (λ e. SetsOne number (Some e) world.queue.entries new.entries) f.0 set)
+          (λ work here n. ap (λ ws. lookup (nat_eq n) ws) (without_job_is number world.works work here) ∙ set_lookup number world.works (without_job work) (ap is_some here) n)
+          (λ work before after was_is is_now.
+          let none = no_steps work None in
+          Aborts it.entry it.entry.begun work none.0 f.1 none.1 (λ e. (e, refl)) was_is is_now)
+      by Forgotten None f set = gone-changes world new whole last (λ n. fewer number n _ _ (set n))
+      by NothingElse None f set = absurd f
+      by OffEngine None f set = absurd f
+      by GivenUp None f set = absurd f
+      by Forgotten (Some is) f set = absurd f
 
 -- ---- an entry that enters
 
-le-next : (n last : ℕ) → nat_eq (last + 1) n ≡ false → nat_le n (last + 1) ≡ nat_le n last
-le-next n last apart = grind (arith, rules, apart)
-
-pub enters-changes : (submits : Option (JobTicket × List Page)) (queue : QueueState) (works : List (ℕ × Work)) (number priority : ℕ) (ticket : JobTicket) (images : List Page) → IsWhole queue works
-    → number ≡ queue.last + 1 → submits ≡ Some (ticket, images) → IsPrintable ticket images → (n : ℕ)
-    → Change submits (standing n queue works)
-    (standing n (record queue { entries = put number (new_entry priority) queue.entries; last = number }) (works ++ (number, new_work ticket images) ∷ [])) [] 0 false
-enters-changes submits queue works number priority ticket images whole next brings printable n = at (nat_eq number n) refl
+pub enters-changes : (world : World) (number priority : ℕ) (ticket : JobTicket) (images : List Page) → IsWhole world → number ≡ world.queue.last + 1 → IsPrintable ticket images → (n : ℕ)
+    → Change (nothing (Some (ticket, images))) (standing n world)
+    (standing n (with_new_work number (new_work ticket images) (with_queue (record world.queue { entries = put number (new_entry priority) world.queue.entries; last = number }) world)))
+enters-changes world number priority ticket images whole next printable =
+    one-changes number world after (Some (new_entry priority)) (Some (new_work ticket images)) (λ n. nothing submits) (nothing submits) refl
+    (inserted_lookup (place_of priority world.queue.entries) number world.queue.entries (new_entry priority) fresh.0)
+    (added_lookup number world.works (new_work ticket images) fresh.1)
+    (λ n apart. (beyond n apart, idle submits))
+    (λ now. Enters priority ticket images refl printable (λ j. stands (above j) (fresh.0 j) (fresh.1 j))
+    (now ∙ (λ j. stands (own j) (Some (new_entry priority)) (Some (new_work ticket images)))) (idle submits))
   where
-    above : nat_le number queue.last ≡ false
+    submits : Option (JobTicket × List Page)
+    submits = Some (ticket, images)
+
+    after : World
+    after = with_new_work number (new_work ticket images) (with_queue (record world.queue { entries = put number (new_entry priority) world.queue.entries; last = number }) world)
+
+    above : nat_le number world.queue.last ≡ false
     above = grind (arith, rules, next)
 
-    fresh : (entry_numbered number queue.entries ≡ None) × (lookup (nat_eq number) works ≡ None)
-    fresh = unknown_of (nat_le number queue.last) (entry_numbered number queue.entries) (lookup (nat_eq number) works) (whole.proper number) above
+    own : nat_le number number ≡ true
+    own = grind (arith, rules)
 
-    entries : entry_numbered n (put number (new_entry priority) queue.entries) ≡ cond (nat_eq number n) (Some (new_entry priority)) (entry_numbered n queue.entries)
-    entries = inserted_lookup n (place_of priority queue.entries) number queue.entries (new_entry priority) fresh.0
+    beyond : (n : ℕ) → nat_eq number n ≡ false → nat_le n number ≡ nat_le n world.queue.last
+    beyond n apart = grind (arith, rules, apart, next)
 
-    works_are : lookup (nat_eq n) (works ++ (number, new_work ticket images) ∷ []) ≡ cond (nat_eq number n) (Some (new_work ticket images)) (lookup (nat_eq n) works)
-    works_are = added_lookup n number works (new_work ticket images) fresh.1
-
-    at : (b : Bool) → nat_eq number n ≡ b
-        → Change submits (standing n queue works)
-        (standing n (record queue { entries = put number (new_entry priority) queue.entries; last = number }) (works ++ (number, new_work ticket images) ∷ [])) [] 0 false
-    at true same =
-        let here : number ≡ n = eqb-true number n same in
-        let before : standing n queue works ≡ Unknown =
-        subst (λ m. standing m queue works ≡ Unknown) here (λ j. standing_of (above j) (fresh.0 j) (fresh.1 j)) in
-        let given : nat_le n number ≡ true = subst (λ m. nat_le m number ≡ true) here (grind (arith, rules)) in
-        let entry_is : entry_numbered n (put number (new_entry priority) queue.entries) ≡ Some (new_entry priority) =
-        entries ∙ ap (λ b. cond b (Some (new_entry priority)) (entry_numbered n queue.entries)) same in
-        let work_is : lookup (nat_eq n) (works ++ (number, new_work ticket images) ∷ []) ≡ Some (new_work ticket images) =
-        works_are ∙ ap (λ b. cond b (Some (new_work ticket images)) (lookup (nat_eq n) works)) same in
-        Enters priority ticket images brings printable before (λ j. standing_of (given j) (entry_is j) (work_is j)) idle
-    at false apart =
-        let given : nat_le n number ≡ nat_le n queue.last =
-        ap (λ m. nat_le n m) next ∙ le-next n queue.last (subst (λ m. nat_eq m n ≡ false) next apart) in
-        let entry_is : entry_numbered n (put number (new_entry priority) queue.entries) ≡ entry_numbered n queue.entries =
-        entries ∙ ap (λ b. cond b (Some (new_entry priority)) (entry_numbered n queue.entries)) apart in
-        let work_is : lookup (nat_eq n) (works ++ (number, new_work ticket images) ∷ []) ≡ lookup (nat_eq n) works =
-        works_are ∙ ap (λ b. cond b (Some (new_work ticket images)) (lookup (nat_eq n) works)) apart in
-        Stays (λ j. standing_of (given j) (entry_is j) (work_is j)) idle
+    fresh : (entry_numbered number world.queue.entries ≡ None) × (lookup (nat_eq number) world.works ≡ None)
+    fresh = unlisted number world whole above

@@ -3,7 +3,6 @@ mod AbortedQueues
 mod AccountLemmas
 mod BoundLemmas
 mod ChangeLemmas
-mod CountLemmas
 mod HandedLemmas
 mod MessageChanges
 mod RunLemmas

@@ -48,7 +48,6 @@ pub fn entries_deliver_while_they_run()
 pub fn entries_do_not_interfere()
     ensures { EntriesDoNotInterfere }
 {
-    jobs_hand_out_the_wanted_sheets();
     each_row_keeps_the_queue();
 }
 
