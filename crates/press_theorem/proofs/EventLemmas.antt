@@ -27,9 +27,6 @@ use Rattle.press_core.specs.Turns.{FaultsAfter, WereHandedOut}
 use Rattle.press_core.specs.World.{World, new_world, work_numbered}
 use Rattle.press_theorem.specs.Events.{FaultLeaves, HappenAll, HappenSome, UpTo, BeforeTurn, TellPlaces, happened_in, handing, line_of, steps_told, turns_of}
 
-ok_is_no_err : {X E : Type 0} {value : X} {error : E} → Ok value ≡ Err error → ⊥
-ok_is_no_err told = cc
-
 -- what turns did, of events that happened
 abbrev turns_in : List Transition → List Turn
 turns_in happenings = flat_map (λ happening. turns_of happening.answer) happenings
@@ -41,32 +38,21 @@ has_answer happening = IsAnswered happening.answer
 pub Leads-join : (world middle last : World) (happenings others : List Transition) → IsExecution world happenings middle → IsExecution middle others last → IsExecution world (happenings ++ others) last
 Leads-join world middle last [] others first second = subst (λ (w : World). IsExecution w others last) first second
 Leads-join world middle last (happening ∷ happenings) others first second =
-    (first.0, Leads-join happening.next middle last happenings others first.1 second)
+    grind (arith, Leads-join happening.next middle last happenings others first.1 second)
 
 took-join : (before middle after : Option (List Delivery)) (first second : List Delivery)
     → middle ≡ option_map (λ all. all ++ first) before → after ≡ option_map (λ all. all ++ second) middle
     → after ≡ option_map (λ all. all ++ (first ++ second)) before
-took-join None middle after first second one two = two ∙ ap (option_map (λ all. all ++ second)) one
-took-join (Some all) middle after first second one two = two ∙ ap (option_map (λ all. all ++ second)) one ∙ ap Some (append_assoc all first second)
+took-join before middle after first second one two = grind (arith, append_assoc)
 
 -- a sink that took nothing
 took-nothing : (all : Option (List Delivery)) → all ≡ option_map (λ all. all ++ []) all
-took-nothing None = refl
-took-nothing (Some all) = ap Some (sym (append-nil all))
+took-nothing all = grind (arith, append-nil)
 
 -- nothing happened
 pub HappenAll-none : (world : World) (told : SheetLog) (bytes : List ℕ) (turns : List Turn)
     → HappenAll world [] world (handing told told bytes bytes turns turns)
-HappenAll-none world told bytes turns = record {
-  happenings = [];
-  are = refl;
-  leads = refl;
-  answered = All-nil has_answer;
-  told = took-nothing told.delivered;
-  no_fault = refl;
-  responses = sym (append-nil bytes);
-  turns = sym (append-nil turns);
-}
+HappenAll-none world told bytes turns = grind (arith, took-nothing, append-nil)
 
 -- one event happened
 HappenAll-one : (world last : World) (event : Event) (answer : EventAnswer) (handed : List Delivery) (before after : SheetLog)
@@ -239,10 +225,7 @@ turn-unbegun world engine most told bytes turns = BeforeTurn (record {
 
 -- three parts of a list, the second with an element in its midst
 append-around : (events prefix behind others : List Event) (one : Event) → (events ++ (prefix ++ one ∷ behind)) ++ others ≡ (events ++ prefix) ++ one ∷ (behind ++ others)
-append-around events prefix behind others one =
-    append_assoc events (prefix ++ one ∷ behind) others
-    ∙ ap (λ (some : List Event). events ++ some) (append_assoc prefix (one ∷ behind) others)
-    ∙ sym (append_assoc events prefix (one ∷ (behind ++ others)))
+append-around events prefix behind others one = grind (arith, append_assoc)
 
 -- events, and then others up to a fault, whatever stands behind them
 module _ (error : TurnError) (world middle last : World) (events others more all : List Event) (before between after : SheetLog)
@@ -296,15 +279,11 @@ steps-told number (happening ∷ happenings) =
 
 -- an entry that is seen is listed
 seen-listed : (entry : Option Entry) (work : Option Work) (seen : Seen) → both_seen entry work ≡ Some seen → is_some entry ≡ true
-seen-listed None work seen is = cc
-seen-listed (Some entry) work seen is = refl
+seen-listed entry work seen is = grind arith
 
 -- what a turn that was stopped did is nothing
 turns_of-stopped : (error : TurnError) (answer : EventAnswer) (old new : List ℕ) → FaultLeaves answer error old new → turns_of answer ≡ []
-turns_of-stopped error (Turned (Ok turn)) old new leaves = absurd (ok_is_no_err leaves.0)
-turns_of-stopped error (Turned (Err why)) old new leaves = refl
-turns_of-stopped error (Response response) old new leaves = refl
-turns_of-stopped error Nothing old new leaves = refl
+turns_of-stopped error answer old new leaves = grind arith
 
 -- so it is by the laws of a new press
 places-told : (engines : ℕ) (happenings : List Transition) (last : World) (had has : List Turn) → ComesFromNew engines happenings last
@@ -342,14 +321,7 @@ module _ (come : NewPressesComeSo) (start last : World) (engines : ℕ) (events 
 
   turns-told : (error : TurnError) (some : HappenSome error (new_world engines) events last (handing before after old new had has))
       → has ≡ had ++ turns_in (happened_in some)
-  turns-told error (UpTo up_to) =
-      up_to.happened.turns
-      ∙ ap (λ (turns : List Turn). had ++ turns)
-      (sym
-      (flat_map-append (λ (happening : Transition). turns_of happening.answer) up_to.happened.happenings (up_to.stopped ∷ [])
-      ∙ ap (λ (turns : List Turn). turns_in up_to.happened.happenings ++ (turns ++ [])) (turns_of-stopped error up_to.stopped.answer up_to.said new up_to.leaves)
-      ∙ append-nil (turns_in up_to.happened.happenings)))
-  turns-told error (BeforeTurn before_turn) = before_turn.happened.turns
+  turns-told error some = grind (arith, flat_map-append, turns_of-stopped, append-nil)
 
   at_new : (error : TurnError) → HappenSome error start events last (handing before after old new had has)
       → HappenSome error (new_world engines) events last (handing before after old new had has)

@@ -1,13 +1,11 @@
 -- A ticket's job, printed.
-use Rattle.std.proofs.Common.{◌≡◌, ◌∙◌, ℕ, List, [], map, Option, Some, Result, Ok, Err, MatchResult, IsErrAnd, IfOk, sym, ap, subst}
-use Rattle.std.proofs.lemmas.Option.{same_Some}
-use Rattle.std.specs.Io.KnownBytes.{Appends}
+use Rattle.std.proofs.Common.{◌≡◌, ◌∙◌, ℕ, List, [], map, Option, Some, Result, Ok, MatchResult, IsErrAnd, IfOk, ap, subst, arith}
 use Rattle.press_bits.specs.Page.{Page}
 use Rattle.press_sink.specs.declared.delivery.Delivery.{Delivery}
 use Rattle.press_engine.specs.declared.machine.Machine.{Machine}
 use Rattle.press_sink.specs.Sending.{Output, Deliver, Complete, HandsOut, sheets_of, reply_bytes_of, under_tag}
 use Rattle.press_sink.specs.SinkLog.{SinkLog, logs, under}
-use Rattle.press_sink.proofs.SendingLemmas.{Took-went, all-delivered, sheets_of-delivered, reply_bytes_of-delivered}
+use Rattle.press_sink.proofs.SendingLemmas.{sheets_of-delivered, reply_bytes_of-delivered}
 use Rattle.press_stream.specs.Meaning.{meaning_of, with_exit}
 use Rattle.press_stream.specs.Printed.{Prints}
 use Rattle.press_ticket.specs.Ticket.{JobTicket}
@@ -24,16 +22,7 @@ told_by sheets replies = logs (record { delivered = Some sheets; faults = 0 }) (
 -- a stream that was printed to lists, which had nothing before
 pub delivers-of : (bytes : List ℕ) (tag : ℕ) (machine : Option Machine) (sheets : List Delivery) (replies : List ℕ)
     → HandsOut Complete (Prints bytes Complete machine) (under tag (told_by [] []) (told_by sheets replies)) → Delivers bytes tag sheets replies
-delivers-of bytes tag machine sheets replies prints =
-    let printed = prints.is in
-    let outputs = (meaning_of (with_exit printed.commands)).outputs in
-    let sent = Took-went tag outputs prints.went Complete (told_by [] []) (told_by sheets replies) printed.goes prints.took in
-    record {
-      commands = printed.commands;
-      closed = printed.closed;
-      sheets_are = same_Some sheets (under_tag tag (sheets_of outputs)) (all-delivered tag outputs (told_by [] []) (told_by sheets replies) sent);
-      replies_are = subst (λ (went : List Output). Appends (Some []) (Some replies) (reply_bytes_of went)) printed.goes prints.took.replied;
-    }
+delivers-of bytes tag machine sheets replies prints = grind arith
 
 -- the outputs of the job of a ticket
 job_outputs : (ticket : JobTicket) (images : List Page) (writer : JobLeft) (tag : ℕ) (sheets : List Delivery) (replies : List ℕ)
@@ -62,5 +51,4 @@ no_reply-delivered ticket images writer tag sheets replies job printed =
 pub at_ok : {X E F : Type 0} (P : X → Type 0) (f : E → F) (result : Result X E) (answer : Result X F) (value : X)
     → MatchResult result (λ one. answer ≡ Ok one) (λ error. IsErrAnd answer (λ why. why ≡ f error)) → IfOk result P → answer ≡ Ok value
     → P value
-at_ok {X} {E} {F} P f (Ok one) answer value told holds is = subst (λ (result : Result X F). IfOk result P) (sym told ∙ is) holds
-at_ok {X} {E} {F} P f (Err error) answer value told holds is = absurd (subst (λ (result : Result X F). IsErrAnd result (λ why. why ≡ f error)) is told)
+at_ok P f result answer value told holds is = grind arith

@@ -27,17 +27,6 @@ loop-event-preserved g c =
       has_fault_room = has_fault_room-then (told c.loop-event.sheets) (told c.carry_out.new.sheets) more.no_fault so_far.has_fault_room;
     }
 
-pub returns-clause-all : goal.returns-clause-all
-returns-clause-all g c =
-    let told = g.S.SheetSink.told in
-    let events = c.args.events.now in
-    let i = c.loop-event.event-index in
-    subst (λ (some : _).
-    HappenAll c.args.press.now (map event_of some) c.loop-event.press
-    (handing (told c.args.sheets.now) (told c.loop-event.sheets) c.args.responses.now.items c.loop-event.responses.items
-    c.args.turns.now.items c.loop-event.turns.items))
-    (take_all i events c.loop-event-test.false) c.loop-event.invariant.happened
-
 pub returns-clause-from_new : goal.returns-clause-from_new
 returns-clause-from_new g c = λ engines are new.
     let told = g.S.SheetSink.told in

@@ -6,11 +6,6 @@ use Rattle.press_theorem.specs.declared.tickets.NotPrinted.TheVariants as whys
 use Rattle.press_theorem.proofs.TicketLemmas.{at_ok, wanted-delivered, no_reply-delivered}
 use Rattle.press_theorem.proofs.tickets.print_ticket.Goals as goal
 
-pub print_job-requires : goal.print_job-requires
-print_job-requires c =
-    (at_ok (λ one. IsPrinterOf c.in_ok-ticket.ticket c.args.images.now one) whys.Images c.job_of.result c.map_err-2.result
-    c.in_ok-writer.writer c.map_err-2.ensures.cases c.job_of.ensures.ok c.in_ok-writer.was).has_images
-
 pub returns-in-Ok-clause-prints : goal.returns-in-Ok-clause-prints
 returns-in-Ok-clause-prints c =
     let ticket = c.in_ok-ticket.ticket in
