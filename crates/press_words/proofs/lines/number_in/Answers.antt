@@ -1,5 +1,5 @@
 use Rattle.std.proofs.Common.{◌∙◌, ◌≤◌, ◌*◌, arith}
-use Rattle.press_words.proofs.NumberLemmas.{too_great, number-whole}
+use Rattle.press_words.proofs.NumberLemmas.{too_great}
 use Rattle.press_words.proofs.lines.number_in.Goals as goal
 
 pub returns-in_err-checked_mul : goal.returns-in_err-checked_mul
@@ -12,6 +12,3 @@ returns-in_err-number c =
     c.from_residual-in_err-number.ensures
     ∙ too_great c.args.word.now c.loop-byte.byte-index c.loop-byte-test.true
     (omega (arith, c.in_err-number.ensures, c.from-digit.ensures, c.in_ok-checked_mul.ensures, c.loop-byte.invariant.number))
-
-pub returns : goal.returns
-returns c = number-whole c.args.word.now c.loop-byte.byte-index c.loop-byte.number c.loop-byte-test.false c.loop-byte.invariant.small c.loop-byte.invariant.number c.loop-byte.invariant.digits
