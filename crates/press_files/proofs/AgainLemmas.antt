@@ -1,9 +1,9 @@
 -- A sheet that is delivered once more.
-use Rattle.std.proofs.Common.{◌≡◌, ◌∙◌, ◌-◌, suc, List, [], ◌∷◌, ◌++◌, length, map, slice_get, Option, Some, None, option_map, refl, sym, ap, arith}
-use Rattle.std.proofs.Common.{Result, Ok, Err, OnOk, OnErr, IfErr}
+use Rattle.std.proofs.Common.{◌≡◌, ◌∙◌, ◌-◌, suc, List, [], ◌∷◌, ◌++◌, length, map, slice_get, Option, Some, option_map, refl, sym, ap, arith}
+use Rattle.std.proofs.Common.{Result, OnOk, OnErr, IfErr}
 use Rattle.press_sink.specs.SinkLog.{Delivers}
 use Rattle.press_sink.specs.declared.fault.SinkError.{SinkError}
-use Rattle.press_sink.specs.declared.fault.SinkError.TheVariants.{NoMemory, SinkFault}
+use Rattle.press_sink.specs.declared.fault.SinkError.TheVariants.{NoMemory}
 use Rattle.press_sink.specs.declared.delivery.Delivery.{Delivery}
 use Rattle.press_files.specs.Listed.{last_of}
 
@@ -31,24 +31,15 @@ last-taken taken taken' one is = sym (ap last_of is ∙ last_of-push taken one)
 
 pub kept-last : (last one : Delivery) (taken : List Delivery) (before : Option (List Delivery)) → Some last ≡ last_of taken
     → Some taken ≡ option_map (λ all. all ++ one ∷ []) before → last ≡ one
-kept-last last one taken None kept took = absurd cc
-kept-last last one taken (Some all) kept took =
-    let is : taken ≡ all ++ one ∷ [] = cc in
-    let same : Some last ≡ Some one = kept ∙ ap last_of is ∙ last_of-push all one in
-    cc
+kept-last last one taken before kept took = grind (arith, last_of-push)
 
 -- a sheet was listed that is this one, or memory ran out
 pub delivers-listed : (result : Result (Unit {0}) SinkError) (taken taken' : List Delivery) (listed one : Delivery) → listed ≡ one
     → OnOk result (taken' ≡ taken ++ listed ∷ []) → OnErr result (taken' ≡ taken) → IfErr result (λ error. error ≡ NoMemory)
     → Delivers (record { delivered = Some taken; faults = 0 }) one result (record { delivered = Some taken'; faults = 0 })
-delivers-listed (Ok done) taken taken' listed one same ok err memory = (ap Some (ok ∙ ap (λ (last : Delivery). taken ++ last ∷ []) same), refl)
-delivers-listed (Err NoMemory) taken taken' listed one same ok err memory = (ap Some err, refl)
-delivers-listed (Err SinkFault) taken taken' listed one same ok err memory = absurd (cc)
+delivers-listed result taken taken' listed one same ok err memory = grind arith
 
 -- what a sink tells that it took last is the last that it keeps
 pub told-last : {A : Type 0} (seen : A → Delivery) (kept : List A) (last : A) (one : Delivery) (before : Option (List Delivery))
     → Some last ≡ slice_get kept (length kept - 1) → Some (map seen kept) ≡ option_map (λ all. all ++ one ∷ []) before → seen last ≡ one
-told-last seen kept last one None is took = absurd cc
-told-last seen kept last one (Some all) is took =
-    let sees : map seen kept ≡ all ++ one ∷ [] = cc in
-    last-seen seen kept last all one is sees
+told-last seen kept last one before is took = grind (arith, last-seen)

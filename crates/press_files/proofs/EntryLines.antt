@@ -1,16 +1,13 @@
 -- Lines of the sheets of entries, one sheet after another.
-use Rattle.std.proofs.Common.{◌≡◌, ◌∙◌, ◌<◌, ℕ, ◌+◌, List, [], ◌∷◌, ◌++◌, length, drop}
-use Rattle.std.proofs.Common.{get_or, Bool, Option, Some, None, option_map, codes, refl, sym, ap}
+use Rattle.std.proofs.Common.{◌≡◌, ◌∙◌, ◌<◌, ℕ, ◌+◌, List, [], ◌∷◌, ◌++◌, length, drop, arith}
+use Rattle.std.proofs.Common.{get_or, Bool, codes, refl, sym, ap}
 use Rattle.std.proofs.lemmas.List.{append_assoc, at_drop_more}
 use Rattle.std.specs.List.{All}
 use Rattle.std.proofs.lemmas.List.Elements.{All-head, All-tail}
-use Rattle.press_bits.specs.Page.{Page}
 use Rattle.press_files.specs.declared.entry_sheets.EntrySheet.{EntrySheet}
 use Rattle.press_files.specs.declared.listed_sheet.ListedSheet.{ListedSheet}
-use Rattle.press_files.specs.declared.measures.Measures.{Measures}
-use Rattle.press_files.specs.EntryListing.{entry_measured_line, entry_back_line, entry_sheet_lines, entry_lines, entry_listing_after}
+use Rattle.press_files.specs.EntryListing.{entry_measured_line, entry_sheet_lines, entry_lines, entry_listing_after}
 use Rattle.press_files.specs.EntryKept.{entries_of, numbers_of, entry_deliveries_of}
-use Rattle.press_files.specs.Measured.{measures_by}
 use Rattle.press_files.specs.Numbering.{occurrences_of, numbers_after}
 use Rattle.press_files.proofs.ListingLemmas.{kept_line}
 
@@ -18,21 +15,10 @@ abbrev lines_of : EntrySheet → List ℕ
 lines_of one = entry_sheet_lines one.sheet.sums one.sheet.tag one.number one.sheet.sheet.value
 
 -- the lines of a sheet are those of what was kept of its sides
-back_line-kept : (sums : Bool) (entry number : ℕ) (back : Option Page)
-    → entry_back_line sums entry number back ≡ kept_line (entry_measured_line entry number (codes "back")) (option_map (measures_by sums) back)
-back_line-kept sums entry number None = refl
-back_line-kept sums entry number (Some back) = refl
-
 pub entry_sheet_lines-kept : (entry number : ℕ) (one : ListedSheet)
     → entry_measured_line entry number (codes "front") one.front ++ kept_line (entry_measured_line entry number (codes "back")) one.back
     ≡ entry_sheet_lines one.sums entry number one.sheet.value
-entry_sheet_lines-kept entry number one =
-    ap (λ (front : Measures).
-    entry_measured_line entry number (codes "front") front ++ kept_line (entry_measured_line entry number (codes "back")) one.back)
-    one.front_measured
-    ∙ ap (λ back. entry_measured_line entry number (codes "front") (measures_by one.sums one.sheet.value.front) ++ back)
-    (ap (kept_line (entry_measured_line entry number (codes "back"))) one.back_measured
-    ∙ sym (back_line-kept one.sums entry number one.sheet.value.back))
+entry_sheet_lines-kept entry number one = grind arith
 
 -- one sheet more was listed
 pub entry_lines-next : (sheets : List EntrySheet) (i : ℕ) (one : EntrySheet) (done all : List ℕ) → i < length sheets

@@ -1,44 +1,33 @@
 -- What is made of the sheets of entries, and the lines that tell it.
-use Rattle.std.proofs.Common.{◌≡◌, ◌∙◌, ◌+◌, ◌<◌, ℕ, zero, suc, List, [], ◌∷◌, ◌++◌, length, drop, get_or, map, take, take-append-drop, length-append, slice_range, ◌≤◌}
-use Rattle.std.proofs.Common.{Option, Some, None, Result, Ok, Err, refl, sym, ap, subst, arith}
-use Rattle.std.proofs.lemmas.List.{append_assoc, append-nil, at_drop_more, drop_all, length-map, map-append}
+use Rattle.std.proofs.Common.{◌≡◌, ◌∙◌, ◌+◌, ℕ, zero, suc, List, [], ◌∷◌, ◌++◌, length, drop, take, take-append-drop, slice_range, ◌≤◌}
+use Rattle.std.proofs.Common.{Option, Some, None, refl, sym, ap, subst, arith}
+use Rattle.std.proofs.lemmas.List.{append_assoc, append-nil, drop_all, map-append}
 use Rattle.std.proofs.lemmas.List.Folds.{drop_split}
 use Rattle.press_bits.specs.PrintedSheet.{PrintedSheet}
-use Rattle.std.specs.Coded.{Coded, Coded-set, code_by, coded×, coded_list, coded_ℕ}
+use Rattle.std.specs.Coded.{Coded-set, coded_list, coded_ℕ}
 use mathlib.Core.Logic.{∥∥₁_elim}
-use Rattle.press_sink.specs.declared.fault.SinkError.TheVariants.{SinkFault}
 use Rattle.press_sink.specs.declared.delivery.Delivery.{Delivery}
-use Rattle.press_sink.specs.Outputs.{MadeOutput, MakesPrefix, MakesOutputs, IsCut, IsPrefix, with_outputs}
+use Rattle.press_sink.specs.Outputs.{MadeOutput, MakesPrefix, IsCut, with_outputs}
 use Rattle.press_sink.proofs.SendingLemmas.{told-nothing, told-twice}
 use Rattle.press_files.specs.declared.entry_sheets.EntrySheet.{EntrySheet}
-use Rattle.press_files.specs.EntryPages.{KeepsPages, MakesPages, StandsBehindPages, outputs_behind, outputs_by, page_lines, page_lines_behind, pages_behind, sheet_page_lines, tags_of}
+use Rattle.press_files.specs.EntryPages.{KeepsPages, MakesPages, StandsBehindPages, outputs_behind, outputs_by, page_lines, pages_behind, tags_of}
 use Rattle.press_files.specs.EntryKept.{ArePlaced, entries_of, entry_deliveries_of, kept_page_lines}
 use Rattle.press_files.specs.EntryTemplate.{EntryParts}
-use Rattle.press_files.specs.Listed.{delivery_of}
-use Rattle.press_files.specs.Numbering.{occurrences_of, sides_of}
+use Rattle.press_files.specs.Numbering.{sides_of}
 use Rattle.press_files.proofs.FilesLemmas.{made_code}
 
 -- ---- the outputs of one sheet more
 
 pages_behind-push : (parts : Option EntryParts) (before deliveries : List Delivery) (one : Delivery)
     → pages_behind parts before (deliveries ++ one ∷ []) ≡ pages_behind parts before deliveries ++ outputs_behind parts (before ++ deliveries) one
-pages_behind-push parts before [] one =
-    append-nil (outputs_behind parts before one) ∙ ap (λ (all : List Delivery). outputs_behind parts all one) (sym (append-nil before))
-pages_behind-push parts before (first ∷ deliveries) one =
-    let next = before ++ first ∷ [] in
-    ap (λ (more : List MadeOutput). outputs_behind parts before first ++ more) (pages_behind-push parts next deliveries one)
-    ∙ sym (append_assoc (outputs_behind parts before first) (pages_behind parts next deliveries) (outputs_behind parts (next ++ deliveries) one))
-    ∙ ap (λ (all : List Delivery). (outputs_behind parts before first ++ pages_behind parts next deliveries) ++ outputs_behind parts all one)
-    (append_assoc before (first ∷ []) deliveries)
+pages_behind-push parts before [] one = grind (arith, append-nil)
+pages_behind-push parts before (first ∷ deliveries) one = grind (arith, append_assoc, pages_behind-push parts (before ++ first ∷ []) deliveries one)
 
 module _ (parts : Option EntryParts) (begun : Option (List MadeOutput)) where
   -- without a fault the outputs are those of the sheets
   pub MakesPages-whole : (deliveries : List Delivery) (faults : ℕ) (now : Option (List MadeOutput)) → faults ≡ 0
       → MakesPages parts deliveries faults begun now → now ≡ with_outputs (pages_behind parts [] deliveries) begun
-  MakesPages-whole deliveries faults now none makes =
-      let stands : makes.behind ≡ [] = subst (λ n. StandsBehindPages n makes.behind parts deliveries) none makes.stands in
-      makes.made ∙ ap (λ (behind : List MadeOutput). with_outputs (pages_behind parts [] deliveries ++ behind) begun) stands
-      ∙ ap (λ (all : List MadeOutput). with_outputs all begun) (append-nil (pages_behind parts [] deliveries))
+  MakesPages-whole deliveries faults now none makes = grind (arith, append-nil)
 
   -- a sheet was taken
   pub MakesPages-more : (deliveries all : List Delivery) (one : Delivery) (faults : ℕ) (now next : Option (List MadeOutput)) → faults ≡ 0
@@ -68,19 +57,6 @@ module _ (parts : Option EntryParts) (begun : Option (List MadeOutput)) where
             front.2 ∙ ap (with_outputs front.0) (MakesPages-whole deliveries faults now none makes)
             ∙ told-twice begun (pages_behind parts [] deliveries) front.0;
       })
-
-  stands-again : (faults : ℕ) (behind : List MadeOutput) (deliveries : List Delivery) → (faults ≡ 0 → ⊥)
-      → StandsBehindPages faults behind parts deliveries → StandsBehindPages (faults + 1) behind parts deliveries
-  stands-again zero behind deliveries some stands = absurd (some refl)
-  stands-again (suc faults) behind deliveries some stands =
-      let is : suc (faults + 1) ≡ suc faults + 1 = omega arith in
-      subst (λ n. StandsBehindPages n behind parts deliveries) is stands
-
-  -- nothing more was made after a fault
-  pub MakesPages-again : (deliveries : List Delivery) (faults : ℕ) (now : Option (List MadeOutput)) → (faults ≡ 0 → ⊥)
-      → MakesPages parts deliveries faults begun now → MakesPages parts deliveries (faults + 1) begun now
-  MakesPages-again deliveries faults now some makes =
-      record { behind = makes.behind; stands = stands-again faults makes.behind deliveries some makes.stands; made = makes.made }
 
 -- without a template nothing is made
 pages_behind-none : (before deliveries : List Delivery) → pages_behind None before deliveries ≡ []
@@ -121,8 +97,7 @@ pages-made parts deliveries faults begun now none makes =
 -- nothing more was made after a fault
 pub KeepsPages-again : (parts : Option EntryParts) (begun : Option (List MadeOutput)) (deliveries : List Delivery) (faults : ℕ) (named : Option EntryParts) (now : Option (List MadeOutput))
     → (faults ≡ 0 → ⊥) → KeepsPages parts begun deliveries faults named now → KeepsPages parts begun deliveries (faults + 1) named now
-KeepsPages-again parts begun deliveries faults named now some keeps =
-    record { is_named = keeps.is_named; makes = MakesPages-again parts begun deliveries faults now some keeps.makes }
+KeepsPages-again parts begun deliveries faults named now some keeps = grind arith
 
 -- a sheet was taken, of this entry, whose front has this number
 pub KeepsPages-next : (parts : Option EntryParts) (begun : Option (List MadeOutput)) (deliveries all : List Delivery) (one : Delivery) (faults : ℕ) (named : Option EntryParts)
@@ -178,19 +153,7 @@ slice_range-behind sheets count within =
 
 -- ---- the lines of sheets that are kept
 
--- the lines of one sheet by its numbers
-abbrev pub kept_lines_of : EntryParts → EntrySheet → List ℕ
-kept_lines_of parts one = sheet_page_lines parts one.sheet.tag one.number one.side one.sheet.sheet.value
-
 -- one sheet more was told
-pub kept_page_lines-next : (parts : EntryParts) (sheets : List EntrySheet) (i : ℕ) (one : EntrySheet) (done all : List ℕ) → i < length sheets
-    → one ≡ get_or sheets i one → all ≡ done ++ kept_page_lines parts (drop i sheets)
-    → all ≡ (done ++ kept_lines_of parts one) ++ kept_page_lines parts (drop (i + 1) sheets)
-kept_page_lines-next parts sheets i one done all inside is split =
-    split ∙ ap (λ rest. done ++ rest) (at_drop_more (kept_page_lines parts) sheets i one inside)
-    ∙ sym (append_assoc done (kept_lines_of parts (get_or sheets i one)) (kept_page_lines parts (drop (i + 1) sheets)))
-    ∙ ap (λ (other : EntrySheet). (done ++ kept_lines_of parts other) ++ kept_page_lines parts (drop (i + 1) sheets)) (sym is)
-
 tags-same : (sheets : List EntrySheet) → tags_of (entry_deliveries_of sheets) ≡ entries_of sheets
 tags-same [] = refl
 tags-same (one ∷ sheets) = ap (λ (more : List ℕ). one.sheet.tag ∷ more) (tags-same sheets)
@@ -200,16 +163,7 @@ pub kept_page_lines-are : (parts : EntryParts) (all front sheets : List EntryShe
     → kept_page_lines parts sheets ≡ page_lines (Some parts) (entry_deliveries_of front) (entry_deliveries_of sheets)
 kept_page_lines-are parts all front [] placed are = refl
 kept_page_lines-are parts all front (one ∷ sheets) placed are =
-    let place = placed front one sheets are in
-    let tag = one.sheet.tag in
-    let number : one.number ≡ occurrences_of tag (tags_of (entry_deliveries_of front)) + 1 =
-    place.0 ∙ ap (λ (tags : List ℕ). occurrences_of tag tags + 1) (sym (tags-same front)) in
-    let rest = kept_page_lines-are parts all (front ++ one ∷ []) sheets placed (are ∙ sym (append_assoc front (one ∷ []) sheets)) in
-    ap (λ (n : ℕ). sheet_page_lines parts tag n one.side one.sheet.sheet.value ++ kept_page_lines parts sheets) number
-    ∙ ap (λ (n : ℕ). sheet_page_lines parts tag (occurrences_of tag (tags_of (entry_deliveries_of front)) + 1) n one.sheet.sheet.value ++ kept_page_lines parts sheets) place.1
-    ∙ ap (λ (more : List ℕ). page_lines_behind (Some parts) (entry_deliveries_of front) (delivery_of one.sheet) ++ more) rest
-    ∙ ap (λ (before : List Delivery). page_lines_behind (Some parts) (entry_deliveries_of front) (delivery_of one.sheet) ++ page_lines (Some parts) before (entry_deliveries_of sheets))
-    (map-append (λ (each : EntrySheet). delivery_of each.sheet) front (one ∷ []))
+    grind (arith, tags-same, map-append, kept_page_lines-are parts all (front ++ one ∷ []) sheets placed (are ∙ sym (append_assoc front (one ∷ []) sheets)))
 
 -- what was delivered is cut where the sheets are
 deliveries-cut : (sheets : List EntrySheet) (count : ℕ) (before behind : List Delivery) → entry_deliveries_of sheets ≡ before ++ behind → length before ≡ count
@@ -219,9 +173,7 @@ deliveries-cut sheets zero (first ∷ before) behind split long = absurd (omega 
 deliveries-cut sheets (suc count) [] behind split long = absurd (omega (arith, long))
 deliveries-cut [] (suc count) (first ∷ before) behind split long = cc
 deliveries-cut (one ∷ sheets) (suc count) (first ∷ before) behind split long =
-    let rest = deliveries-cut sheets count before behind (cc) (omega (arith, long)) in
-    let head : delivery_of one.sheet ≡ first = cc in
-    (cc (head, rest.0), rest.1)
+    grind (arith, deliveries-cut sheets count before behind (cc) (omega (arith, long)))
 
 -- the lines of the sheets behind the first so many
 pub page_lines-behind : (parts : EntryParts) (sheets : List EntrySheet) (count : ℕ) (before behind : List Delivery) → ArePlaced sheets

@@ -1,11 +1,11 @@
 -- Templates in which an entry and a number have their places.
-use Rattle.std.proofs.Common.{◌≡◌, ◌∙◌, ◌∷◌, ◌++◌, ℕ, Bool, true, false, List, None, inl, inr, ap, sym, append_assoc, arith}
+use Rattle.std.proofs.Common.{◌≡◌, ◌∷◌, ◌++◌, ℕ, Bool, true, false, List, None, inl, inr, append_assoc, arith}
 use Rattle.std.specs.Prelude.{MatchBool}
 use Rattle.std.specs.Fmt.{decimal}
 use Rattle.std.specs.Str.Pattern.{FindsText, HasMatch}
 use Rattle.press_files.proofs.MarkLemmas.{finds_nowhere, found_spells, parted}
 use Rattle.press_sink.specs.Template.{NameParts}
-use Rattle.press_files.specs.EntryTemplate.{EntryParts, IsEntryTemplate, IsNoEntryTemplate, NumberStands, SpellsRound, StandsNowhere, StandsOnce, entry_place, number_place}
+use Rattle.press_files.specs.EntryTemplate.{EntryParts, IsNoEntryTemplate, NumberStands, SpellsRound, StandsNowhere, StandsOnce, entry_place, number_place}
 
 -- neither mark begins again within itself
 pub q_is_no_percent : ◌≡◌ {A = ℕ} 113 37 → ⊥
@@ -36,6 +36,4 @@ has-number text false none = finds_nowhere 37 100 d_is_no_percent text none
 -- the name of a side whose number stands behind its entry
 pub name-behind : (front middle back : List ℕ) (entry number : ℕ)
     → front ++ (81 ∷ (decimal entry ++ (middle ++ (decimal number ++ back)))) ≡ (front ++ (81 ∷ (decimal entry ++ middle))) ++ (decimal number ++ back)
-name-behind front middle back entry number =
-    ap (λ (rest : List ℕ). front ++ (81 ∷ rest)) (sym (append_assoc (decimal entry) middle (decimal number ++ back)))
-    ∙ sym (append_assoc front (81 ∷ (decimal entry ++ middle)) (decimal number ++ back))
+name-behind front middle back entry number = grind (arith, append_assoc)

@@ -1,11 +1,8 @@
 -- Images, one input after another.
 use Rattle.std.proofs.Common.{Bor, ◌≡◌, ◌∙◌, ◌<◌, ℕ, zero, suc, ◌+◌, List, [], ◌∷◌, ◌++◌, length, map, take, get_or, Option}
-use Rattle.std.proofs.Common.{Result, Ok, Err, MatchResult, IsErrAnd, IfErr, refl, ap, sym, subst, inl, inr, arith}
+use Rattle.std.proofs.Common.{ap, sym, subst, inl, inr, arith}
 use Rattle.std.proofs.lemmas.List.{take_more, map-append}
 use Rattle.press_bits.specs.Page.{Page}
-use Rattle.press_pbm.specs.File.{Refused}
-use Rattle.press_pbm.specs.declared.fault.ReadPbmError.{ReadPbmError}
-use Rattle.press_pbm.specs.declared.fault.ReadPbmError.TheVariants as image_fault
 use Rattle.press_writer.specs.declared.fault.WriterError.{WriterError}
 use Rattle.press_files.specs.Causes.{Failures}
 use Rattle.press_files.specs.Edge.{lent_texts}
@@ -56,22 +53,7 @@ lacks-an-image input (name ∷ names) (suc i) other (image ∷ images) why insid
 -- an input that is not opened
 pub unopened : (input : NamedInput) (error : InputError) → (error ≡ input_fault.ReadFault → input.IsMissing)
     → ImageRefused input (fault.Input error)
-unopened input input_fault.ReadFault missing = missing refl
-unopened input input_fault.NoMemory missing = tt
-
-err_is_no_ok : {image : Page} {why : JobFileError} → Err why ≡ Ok image → ⊥
-err_is_no_ok told = cc
-
--- the fault of a reader of images, told as that of its input
-pub image-refused : (Failed : Type 0) (result : Result Page ReadPbmError) (answer : Result Page JobFileError) (input : NamedInput)
-    (left : Option (List ℕ)) → (Failed → input.Failed)
-    → MatchResult result (λ image. answer ≡ Ok image) (λ error. IsErrAnd answer (λ why. why ≡ fault.Image error))
-    → IfErr result (λ error. Refused error input.bytes left) → IfErr result (λ error. error ≡ image_fault.ReadFault → Failed)
-    → IfErr answer (λ why. ImageRefused input why)
-image-refused Failed result (Ok image) input left fails told refused cause = tt
-image-refused Failed (Ok image) (Err why) input left fails told refused cause = absurd (err_is_no_ok told)
-image-refused Failed (Err error) (Err why) input left fails told refused cause =
-    subst (λ (fault : JobFileError). ImageRefused input fault) (sym told) (left, refused, λ is. fails (cause is))
+unopened input error missing = grind arith
 
 -- ---- what a device makes of a job
 
@@ -87,20 +69,7 @@ no-writer [] error lacks = lacks
 no-writer (input ∷ inputs) error (inl refused) = refused
 no-writer (input ∷ inputs) error (inr (image, has, lacks)) = no-writer inputs error lacks
 
-input-is-no-memory : {error : InputError} → fault.Input error ≡ fault.NoMemory → ⊥
-input-is-no-memory is = cc
-
-writer-is-no-memory : {error : WriterError} → fault.Writer error ≡ fault.NoMemory → ⊥
-writer-is-no-memory is = cc
-
 -- inputs that gave no images
 pub images-cause : (fails : Failures) (had left : Option (List ℕ)) (inputs : List NamedInput) (why : JobFileError) (ticket : JobTicket)
     → TicketRead had left ticket → ImagesRefused inputs why → JobCause fails had left inputs why
-images-cause fails had left inputs (fault.Input input_fault.ReadFault) ticket read (inl lacks) = inr ((ticket, read), some-missing inputs lacks)
-images-cause fails had left inputs (fault.Input input_fault.ReadFault) ticket read (inr is) = absurd (input-is-no-memory is)
-images-cause fails had left inputs (fault.Input input_fault.NoMemory) ticket read refused = tt
-images-cause fails had left inputs (fault.Writer error) ticket read (inl lacks) = absurd (no-writer inputs error lacks)
-images-cause fails had left inputs (fault.Writer error) ticket read (inr is) = absurd (writer-is-no-memory is)
-images-cause fails had left inputs (fault.Ticket error) ticket read refused = tt
-images-cause fails had left inputs (fault.Image error) ticket read refused = tt
-images-cause fails had left inputs fault.NoMemory ticket read refused = tt
+images-cause fails had left inputs why ticket read refused = grind (arith, some-missing, no-writer)

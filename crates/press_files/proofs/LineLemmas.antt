@@ -1,15 +1,15 @@
 -- Lines of a text, one piece of it after another.
-use Rattle.std.proofs.Common.{◌≡◌, ◌∙◌, ◌<◌, ◌≤◌, ◌+◌, ℕ, zero, suc, List, [], ◌∷◌, ◌++◌, Bool, true, false, cond, length, take, drop, get_or, Option, Some, None, Ok, Err, refl, sym, ap, subst, arith}
+use Rattle.std.proofs.Common.{◌≡◌, ◌∙◌, ◌<◌, ◌+◌, ℕ, zero, suc, List, [], ◌∷◌, ◌++◌, Bool, true, false, cond, length, take, drop, get_or, Option, Some, None, Ok, Err, refl, sym, ap, arith}
 use Rattle.std.specs.Prelude.{◌==◌}
 use Rattle.std.specs.Io.KnownBytes.{Consumes}
-use Rattle.std.specs.List.{position, position_or_len}
-use Rattle.std.proofs.KnownBytes.{Consumes-nil, Consumes-trans}
+use Rattle.std.specs.List.{position}
+use Rattle.std.proofs.KnownBytes.{Consumes-trans}
 use Rattle.std.proofs.Math.Seq.{drop-length}
-use Rattle.std.proofs.lemmas.Bool.{eqb-true, ltb-false}
-use Rattle.std.proofs.lemmas.List.{append_assoc, append-nil, length-take, take_more, take-append-drop}
+use Rattle.std.proofs.lemmas.Bool.{eqb-true}
+use Rattle.std.proofs.lemmas.List.{append_assoc, append-nil, take_more, take-append-drop}
 use Rattle.std.proofs.lemmas.List.Quantifiers.{position-Some}
 use Rattle.std.proofs.lemmas.List.Sums.{fails_before_first}
-use Rattle.press_asm.specs.Text.{is_feed, in_front, lines_of}
+use Rattle.press_asm.specs.Text.{is_feed, lines_of}
 use Rattle.press_files.specs.declared.inputs.InputError.{InputError}
 use Rattle.press_files.specs.declared.inputs.InputError.TheVariants.{ReadFault, NoMemory}
 use Rattle.press_files.specs.LineReading.{TakesLine, Refills, GivesLine, ReadsNoMore}
@@ -18,16 +18,12 @@ use Rattle.press_words.specs.Lines.{HasNoFeed}
 -- a line with its line feed, and what stands behind it
 pub lines_of-feed : (line rest : List ℕ) → HasNoFeed line → lines_of (line ++ 10 ∷ rest) ≡ line ∷ lines_of rest
 lines_of-feed [] rest none = refl
-lines_of-feed (byte ∷ line) rest none =
-    ap (λ (t : Bool). cond t ([] ∷ lines_of (line ++ 10 ∷ rest)) (in_front byte (lines_of (line ++ 10 ∷ rest)))) none.0
-    ∙ ap (in_front byte) (lines_of-feed line rest none.1)
+lines_of-feed (byte ∷ line) rest none = grind (arith, lines_of-feed line rest none.1)
 
 -- a line without one
 pub lines_of-last : (byte : ℕ) (line : List ℕ) → HasNoFeed (byte ∷ line) → lines_of (byte ∷ line) ≡ (byte ∷ line) ∷ []
 lines_of-last byte [] none = ap (λ (t : Bool). cond t ([] ∷ []) ((byte ∷ []) ∷ [])) none.0
-lines_of-last byte (next ∷ line) none =
-    ap (λ (t : Bool). cond t ([] ∷ lines_of (next ∷ line)) (in_front byte (lines_of (next ∷ line)))) none.0
-    ∙ ap (in_front byte) (lines_of-last next line none.1)
+lines_of-last byte (next ∷ line) none = grind (arith, lines_of-last next line none.1)
 
 pub HasNoFeed-append : (first second : List ℕ) → HasNoFeed first → HasNoFeed second → HasNoFeed (first ++ second)
 HasNoFeed-append [] second none other = other
@@ -57,16 +53,9 @@ takes-line held ahead old new left place is first adds leaves =
       adds,
     )
 
-none_passes : (t : Bool) (i : ℕ) → cond t (Some i) None ≡ None → t ≡ false
-none_passes true i none = absurd cc
-none_passes false i none = refl
-
 -- where there is none
 pub takes-all : (held ahead old new left : List ℕ) → ahead ≡ held → position is_feed ahead ≡ None → new ≡ old ++ ahead → left ≡ [] → TakesLine false held left old new
-takes-all held ahead old new left is none adds leaves =
-    let past : length ahead ≤ position_or_len is_feed ahead = ltb-false _ _ (none_passes _ _ none) in
-    let plain : HasNoFeed ahead = HasNoFeed-all ahead (λ k before. fails_before_first is_feed ahead k 0 (omega (arith, past, before))) in
-    (subst HasNoFeed is plain, leaves, adds ∙ ap (λ (bytes : List ℕ). old ++ bytes) is)
+takes-all held ahead old new left is none adds leaves = grind (arith, HasNoFeed-all, fails_before_first)
 
 pub drop-whole : (bytes : List ℕ) (n : ℕ) → n ≡ length bytes → drop n bytes ≡ []
 drop-whole bytes n is = ap (λ (k : ℕ). drop k bytes) is ∙ drop-length bytes
@@ -78,13 +67,9 @@ pub record IsGathered (old : List ℕ) (had left : Option (List ℕ)) (line held
   pub none : HasNoFeed line
   pub is : old ++ read ≡ line ++ held
 
-pub gathers-begun : (old : List ℕ) (had : Option (List ℕ)) (line : List ℕ) → line ≡ [] → IsGathered old had had line old
-gathers-begun old had line none = record { read = []; lost = Consumes-nil had; none = subst HasNoFeed (sym none) tt; is = append-nil old ∙ ap (λ (prefix : List ℕ). prefix ++ old) (sym none) }
-
 -- all that was held is part of the line
 gathered : (old held left line new : List ℕ) (read : List ℕ) → HasNoFeed line → old ++ read ≡ line ++ held → TakesLine false held left line new → HasNoFeed new × (old ++ read ≡ new)
-gathered old held left line new read none is taken =
-    (subst HasNoFeed (sym taken.2) (HasNoFeed-append line held none taken.0), is ∙ sym taken.2)
+gathered old held left line new read none is taken = grind (arith, HasNoFeed-append)
 
 -- with the next piece
 pub gathers-more : (old : List ℕ) (had middle rest : Option (List ℕ)) (line held left new piece : List ℕ) (ended more : Bool)
@@ -126,39 +111,22 @@ gives-none error old had middle rest line held left new piece holds true lacks s
 -- up to a line feed
 pub gives-line : (old : List ℕ) (had rest : Option (List ℕ)) (line held left new : List ℕ) (ended : Bool) → ended ≡ true
     → IsGathered old had rest line held → TakesLine ended held left line new → GivesLine (Ok true) old left had rest new
-gives-line old had rest line held left new true goes so_far taken = (
-  so_far.read,
-  so_far.lost,
-  subst HasNoFeed (sym taken.3) (HasNoFeed-append line taken.0 so_far.none taken.1),
-  so_far.is ∙ ap (λ (bytes : List ℕ). line ++ bytes) taken.2 ∙ sym (append_assoc line taken.0 (10 ∷ left)) ∙ ap (λ (bytes : List ℕ). bytes ++ 10 ∷ left) (sym taken.3),
-)
-gives-line old had rest line held left new false goes so_far taken = absurd cc
-
--- a piece is no longer than what it was read into
-pub no-longer : (none items piece : List ℕ) (n most : ℕ) → none ≡ [] → items ≡ none ++ take n piece → length piece ≡ most → length items ≤ most
-no-longer none items piece n most is are size =
-    let all : length items ≡ length (take n piece) = ap length (are ∙ ap (λ (prefix : List ℕ). prefix ++ take n piece) is) in
-    let short = length-take n piece in
-    omega (arith, all, short, size)
+gives-line old had rest line held left new ended goes so_far taken = grind (arith, HasNoFeed-append, append_assoc)
 
 -- nothing is held where no line feed stood there
 pub leaves-none : (held left old new : List ℕ) (ended : Bool) → ended ≡ false → TakesLine ended held left old new → length left ≡ 0
-leaves-none held left old new false lacks taken = ap length taken.1
-leaves-none held left old new true lacks taken = absurd cc
+leaves-none held left old new ended lacks taken = grind arith
 
 -- the next line, of what was held and read
 pub next-line : (line rest : List ℕ) (lines : List (List ℕ)) (all : List ℕ) → HasNoFeed line → all ≡ line ++ 10 ∷ rest → lines ++ lines_of all ≡ (lines ++ line ∷ []) ++ lines_of rest
-next-line line rest lines all none is =
-    ap (λ (bytes : List ℕ). lines ++ lines_of bytes) is ∙ ap (λ (others : List (List ℕ)). lines ++ others) (lines_of-feed line rest none) ∙ sym (append_assoc lines (line ∷ []) (lines_of rest))
+next-line line rest lines all none is = grind (arith, lines_of-feed, append_assoc)
 
 -- no line was read
 pub reads-no-more : (error : InputError) (held holds : List ℕ) (left rest : Option (List ℕ)) (line : List ℕ) (text : List ℕ)
     (lines : List (List ℕ))
     → ((more : List ℕ) → lines_of (text ++ more) ≡ lines ++ lines_of (held ++ more)) → GivesLine (Err error) held holds left rest line
     → (read : List ℕ) × Consumes left rest read × ReadsNoMore error (text ++ read) lines
-reads-no-more ReadFault held holds left rest line text lines cut given =
-    (given.0, given.1, (line, cut given.0 ∙ ap (λ (bytes : List ℕ). lines ++ lines_of bytes) given.3, given.2))
-reads-no-more NoMemory held holds left rest line text lines cut given = (given.0, given.1, (lines_of (held ++ given.0), cut given.0))
+reads-no-more error held holds left rest line text lines cut given = grind arith
 
 -- the lines of a text without a line feed
 pub no-lines : (line : List ℕ) → (length line == 0) ≡ true → lines_of line ≡ []

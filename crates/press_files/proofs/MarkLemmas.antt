@@ -1,5 +1,5 @@
 -- How often a mark of two bytes stands in a text.
-use Rattle.std.proofs.Common.{◌≡◌, ◌∙◌, ℕ, ◌<◌, ◌≤◌, suc, List, [], ◌∷◌, ◌++◌, length, drop, take, refl, sym, ap, subst, arith, append_assoc, take-append-drop, length-append, Option, Some, None}
+use Rattle.std.proofs.Common.{◌≡◌, ◌∙◌, ℕ, ◌<◌, ◌≤◌, suc, List, [], ◌∷◌, ◌++◌, length, drop, take, refl, sym, ap, subst, arith, append_assoc, take-append-drop, length-append, Some, None}
 use Rattle.std.proofs.Math.Seq.{drop-append_seam}
 use Rattle.std.specs.Str.Pattern.{FindsText, HasTextAt, LacksTextAt}
 use Rattle.press_sink.specs.Template.{NameParts}
@@ -29,10 +29,7 @@ module _ (first second : ℕ) (differ : second ≡ first → ⊥) where
   one_spelling [] back (x ∷ y ∷ other) rest before behind e = absurd (behind other rest (cc))
   one_spelling (x ∷ front) back [] rest before behind e = absurd (before 0 (omega arith) rest e)
   one_spelling (x ∷ front) back (y ∷ other) rest before behind e =
-      let tails : front ++ (mark ++ back) ≡ other ++ (mark ++ rest) = cc in
-      let heads : y ≡ x = cc in
-      let same = one_spelling front back other rest (λ k h r. before (suc k) (omega arith) r) behind tails in
-      (cc (heads, same.0), same.1)
+      grind (arith, one_spelling front back other rest (λ k h r. before (suc k) (omega arith) r) behind (cc))
 
   -- what stands where the mark was found
   pub found_spells : (text : List ℕ) (i j : ℕ) → HasTextAt mark text i j → SpellsRound mark text (parted (take i text) (drop j text))

@@ -1,10 +1,8 @@
 -- Numbers of sheets among those of their entry, one sheet after another.
-use Rattle.std.proofs.Common.{◌≡◌, ◌≢◌, ◌⊎◌, ◌∙◌, ◌≤◌, ℕ, ◌+◌, List, [], ◌∷◌, ◌++◌, length, nat_eq, suc, Bool, is_some}
-use Rattle.std.proofs.Common.{true, false, Option, Some, inl, inr, refl, sym, ap, arith, if◌then◌else◌}
-use Rattle.std.specs.Prelude.{cond, unwrap_or, is_ok, IsOk, Result}
+use Rattle.std.proofs.Common.{◌≡◌, ◌⊎◌, ◌∙◌, ◌≤◌, ℕ, ◌+◌, List, [], ◌∷◌, ◌++◌, length, nat_eq, Bool, is_some}
+use Rattle.std.proofs.Common.{false, Some, inl, inr, refl, ap, arith, if◌then◌else◌}
+use Rattle.std.specs.Prelude.{cond, is_ok, IsOk, Result}
 use Rattle.std.specs.Map.{lookup}
-use Rattle.std.proofs.lemmas.Bool.{eq-eqb}
-use Rattle.std.proofs.lemmas.Bool.Decides.{eqb_tells}
 use Rattle.std.proofs.lemmas.List.{map_push}
 use Rattle.press_files.specs.declared.entry_sheets.EntrySheet.{EntrySheet}
 use Rattle.press_bits.specs.PrintedSheet.{PrintedSheet}
@@ -14,64 +12,38 @@ use Rattle.press_files.specs.declared.entry_sheets.EntryCount.{EntryCount}
 use Rattle.press_files.specs.EntryKept.{ArePlaced, count_in, entries_of, entry_deliveries_of, numbers_of}
 use Rattle.press_files.specs.Numbering.{occurrences_of, numbers_after, sides_of}
 
-at_most_one : (b : Bool) (n m : ℕ) → n ≤ m → (if b then 1 else 0) + n ≤ suc m
-at_most_one true n m within = omega (arith, within)
-at_most_one false n m within = omega (arith, within)
-
 -- an entry stands in a list no more often than the list is long
 pub occurrences_of-within : (entry : ℕ) (entries : List ℕ) → occurrences_of entry entries ≤ length entries
 occurrences_of-within entry [] = omega arith
-occurrences_of-within entry (one ∷ entries) =
-    at_most_one (nat_eq entry one) (occurrences_of entry entries) (length entries) (occurrences_of-within entry entries)
+occurrences_of-within entry (one ∷ entries) = grind (arith, occurrences_of-within entry entries)
 
 -- one more entry
 pub occurrences_of-push : (entry : ℕ) (entries : List ℕ) (one : ℕ)
     → occurrences_of entry (entries ++ one ∷ []) ≡ occurrences_of entry entries + (if nat_eq entry one then 1 else 0)
 occurrences_of-push entry [] one = omega arith
-occurrences_of-push entry (first ∷ entries) one =
-    let rest = occurrences_of-push entry entries one in omega (arith, rest)
+occurrences_of-push entry (first ∷ entries) one = grind (arith, occurrences_of-push entry entries one)
 
 -- and its number
 pub numbers-push : (before entries : List ℕ) (one : ℕ)
     → numbers_after before (entries ++ one ∷ [])
     ≡ numbers_after before entries ++ (occurrences_of one entries + occurrences_of one before + 1) ∷ []
-numbers-push before [] one =
-    let number : occurrences_of one before + 1 ≡ 0 + occurrences_of one before + 1 = omega arith in
-    ap (λ (n : ℕ). n ∷ []) number
-numbers-push before (first ∷ entries) one =
-    let more : occurrences_of one entries + occurrences_of one (first ∷ before) + 1
-    ≡ occurrences_of one (first ∷ entries) + occurrences_of one before + 1 =
-    omega arith in
-    ap (λ (rest : List ℕ). (occurrences_of first before + 1) ∷ rest)
-    (numbers-push (first ∷ before) entries one ∙ ap (λ (n : ℕ). numbers_after (first ∷ before) entries ++ n ∷ []) more)
+numbers-push before [] one = grind arith
+numbers-push before (first ∷ entries) one = grind (arith, numbers-push (first ∷ before) entries one)
 
 -- a sheet more, under the next number of its entry
 pub numbered-push : (sheets : List EntrySheet) (one : EntrySheet) → numbers_of sheets ≡ numbers_after [] (entries_of sheets)
     → one.number ≡ occurrences_of one.sheet.tag (entries_of sheets) + 1
     → numbers_of (sheets ++ one ∷ []) ≡ numbers_after [] (entries_of (sheets ++ one ∷ []))
-numbered-push sheets one numbered next =
-    let number : one.number ≡ occurrences_of one.sheet.tag (entries_of sheets) + 0 + 1 = omega (arith, next) in
-    map_push (λ (each : EntrySheet). each.number) sheets one
-    ∙ ap (λ (all : List ℕ). all ++ one.number ∷ []) numbered
-    ∙ ap (λ (n : ℕ). numbers_after [] (entries_of sheets) ++ n ∷ []) number
-    ∙ sym (ap (numbers_after []) (map_push (λ (each : EntrySheet). each.sheet.tag) sheets one)
-    ∙ numbers-push [] (entries_of sheets) one.sheet.tag)
+numbered-push sheets one numbered next = grind (arith, map_push, numbers-push)
 
 -- the count of the entry that came
 pub occurrences_of-same : (entry : ℕ) (entries : List ℕ) → occurrences_of entry (entries ++ entry ∷ []) ≡ occurrences_of entry entries + 1
-occurrences_of-same entry entries =
-    occurrences_of-push entry entries entry
-    ∙ ap (λ (b : Bool). occurrences_of entry entries + (if b then 1 else 0)) (eq-eqb entry entry refl)
+occurrences_of-same entry entries = grind (arith, occurrences_of-push)
 
 -- and of another one
 pub occurrences_of-other : (entry one : ℕ) (entries : List ℕ) → nat_eq entry one ≡ false
     → occurrences_of entry (entries ++ one ∷ []) ≡ occurrences_of entry entries
-occurrences_of-other entry one entries other =
-    let none : occurrences_of entry entries + 0 ≡ occurrences_of entry entries = omega arith in
-    occurrences_of-push entry entries one ∙ ap (λ (b : Bool). occurrences_of entry entries + (if b then 1 else 0)) other ∙ none
-
-apart : (one other : ℕ) → one ≢ other → nat_eq other one ≡ false
-apart one other differ = elim (eqb_tells other one) [ inl same ↦ absurd (differ (sym same.1)) | inr not ↦ not.0 ]
+occurrences_of-other entry one entries other = grind (arith, occurrences_of-push)
 
 -- what is counted of entries, one of which has another count
 pub counts-push : (of : EntryCount → ℕ) (amount next : ℕ → ℕ) (before after : List (ℕ × EntryCount)) (one : ℕ) (n : EntryCount)
@@ -79,55 +51,34 @@ pub counts-push : (of : EntryCount → ℕ) (amount next : ℕ → ℕ) (before 
     → ((entry : ℕ) → lookup (nat_eq entry) after ≡ cond (nat_eq one entry) (Some n) (lookup (nat_eq entry) before))
     → of n ≡ next one → ((entry : ℕ) → nat_eq entry one ≡ false → next entry ≡ amount entry) → (entry : ℕ)
     → of (count_in entry after) ≡ next entry
-counts-push of amount next before after one n counted updates more others entry =
-    let found : Option EntryCount → ℕ = λ o. of (unwrap_or o (record { sheets = 0; sides = 0 })) in
-    elim (eqb_tells one entry) [
-      | inl same ↦
-          ap found (updates entry ∙ ap (λ (b : Bool). cond b (Some n) (lookup (nat_eq entry) before)) same.0)
-          ∙ more ∙ ap next same.1
-      | inr not ↦
-          ap found (updates entry ∙ ap (λ (b : Bool). cond b (Some n) (lookup (nat_eq entry) before)) not.0)
-          ∙ counted entry ∙ sym (others entry (apart one entry not.1))
-    ]
+counts-push of amount next before after one n counted updates more others entry = grind arith
 
 -- ---- the sides of entries
 
 two-at-most : (b : Bool) → (if b then 2 else 1) ≤ 2
-two-at-most true = omega arith
-two-at-most false = omega arith
+two-at-most b = grind arith
 
 pub side_count-small : (sheet : PrintedSheet) → side_count sheet ≤ 2
 side_count-small sheet = two-at-most (is_some sheet.back)
 
-two_more : (b : Bool) (sheet : PrintedSheet) (n m : ℕ) → n ≤ m + m → (if b then side_count sheet else 0) + n ≤ suc m + suc m
-two_more true sheet n m within = let few = side_count-small sheet in omega (arith, within, few)
-two_more false sheet n m within = omega (arith, within)
-
 -- an entry has no more sides than twice as many as there are deliveries
 pub sides_of-within : (entry : ℕ) (deliveries : List Delivery) → sides_of entry deliveries ≤ length deliveries + length deliveries
 sides_of-within entry [] = omega arith
-sides_of-within entry (one ∷ deliveries) =
-    two_more (nat_eq entry one.tag) one.sheet (sides_of entry deliveries) (length deliveries) (sides_of-within entry deliveries)
+sides_of-within entry (one ∷ deliveries) = grind (arith, sides_of-within entry deliveries)
 
 -- one more sheet
 sides_of-push : (entry : ℕ) (deliveries : List Delivery) (one : Delivery)
     → sides_of entry (deliveries ++ one ∷ []) ≡ sides_of entry deliveries + (if nat_eq entry one.tag then side_count one.sheet else 0)
 sides_of-push entry [] one = omega arith
-sides_of-push entry (first ∷ deliveries) one =
-    let rest = sides_of-push entry deliveries one in omega (arith, rest)
+sides_of-push entry (first ∷ deliveries) one = grind (arith, sides_of-push entry deliveries one)
 
 pub sides_of-same : (deliveries : List Delivery) (one : Delivery)
     → sides_of one.tag (deliveries ++ one ∷ []) ≡ sides_of one.tag deliveries + side_count one.sheet
-sides_of-same deliveries one =
-    sides_of-push one.tag deliveries one
-    ∙ ap (λ (b : Bool). sides_of one.tag deliveries + (if b then side_count one.sheet else 0)) (eq-eqb one.tag one.tag refl)
+sides_of-same deliveries one = grind (arith, sides_of-push)
 
 pub sides_of-other : (entry : ℕ) (deliveries : List Delivery) (one : Delivery) → nat_eq entry one.tag ≡ false
     → sides_of entry (deliveries ++ one ∷ []) ≡ sides_of entry deliveries
-sides_of-other entry deliveries one other =
-    let none : sides_of entry deliveries + 0 ≡ sides_of entry deliveries = omega arith in
-    sides_of-push entry deliveries one
-    ∙ ap (λ (b : Bool). sides_of entry deliveries + (if b then side_count one.sheet else 0)) other ∙ none
+sides_of-other entry deliveries one other = grind (arith, sides_of-push)
 
 -- ---- places
 
@@ -138,13 +89,7 @@ last_or_before [] x [] y behind is = inl (refl, cc)
 last_or_before [] x (z ∷ []) y behind is = absurd cc
 last_or_before [] x (z ∷ w ∷ front) y behind is = absurd cc
 last_or_before (z ∷ xs) x [] y behind is = inr (xs, cc)
-last_or_before (z ∷ xs) x (w ∷ front) y behind is =
-    let rest : xs ++ x ∷ [] ≡ front ++ y ∷ behind = cc in
-    let heads : z ≡ w = cc in
-    elim (last_or_before xs x front y behind rest) [
-      | inl last ↦ inl (cc (heads, last.0), last.1)
-      | inr before ↦ inr (before.0, cc (heads, before.1))
-    ]
+last_or_before (z ∷ xs) x (w ∷ front) y behind is = grind (arith, last_or_before xs x front y behind (cc))
 
 -- one more sheet stands under its numbers
 pub placed-push : (sheets : List EntrySheet) (one : EntrySheet) → ArePlaced sheets → one.number ≡ occurrences_of one.sheet.tag (entries_of sheets) + 1

@@ -1,8 +1,8 @@
 -- Lines that are answered, some after others, and what is seen of a talk.
-use Rattle.std.proofs.Common.{◌≡◌, ◌∙◌, ℕ, List, [], ◌∷◌, ◌++◌, true, false, Option, Ok, Err, refl, sym, ap, subst, inl, inr}
+use Rattle.std.proofs.Common.{◌≡◌, ◌∙◌, ℕ, List, [], ◌∷◌, ◌++◌, true, false, Option, Ok, Err, refl, sym, ap, subst, inl, inr, arith}
 use Rattle.std.specs.declared.io.Error.{Error}
 use Rattle.std.specs.Io.KnownBytes.{Consumes, Appends}
-use Rattle.std.proofs.KnownBytes.{Appends-nil, Appends-trans, Consumes-nil, Consumes-trans}
+use Rattle.std.proofs.KnownBytes.{Appends-trans, Consumes-trans}
 use Rattle.std.proofs.lemmas.List.{append_assoc, append-nil}
 use Rattle.press_asm.specs.Text.{lines_of}
 use Rattle.press_files.specs.Change.{Change, change}
@@ -16,10 +16,9 @@ use Rattle.press_files.proofs.LineLemmas.{next-line, reads-no-more}
 module _ {S : Type 0} (Answers : S → List ℕ → List ℕ → S → Type 0) where
   AnswersLines-append : (lines others : List (List ℕ)) (old : S) (answers : List ℕ) (mid : S) (more : List ℕ) (new : S)
       → AnswersLines Answers lines old answers mid → AnswersLines Answers others mid more new → AnswersLines Answers (lines ++ others) old (answers ++ more) new
-  AnswersLines-append [] others old answers mid more new (none, same) second =
-      subst (λ (all : List ℕ). AnswersLines Answers others old (all ++ more) new) (sym none) (subst (λ (at : S). AnswersLines Answers others at more new) same second)
+  AnswersLines-append [] others old answers mid more new (none, same) second = grind arith
   AnswersLines-append (line ∷ lines) others old answers mid more new (answer, rest, next, does, answered, are) second =
-      (answer, rest ++ more, next, does, AnswersLines-append lines others next rest mid more new answered second, ap (λ (some : List ℕ). some ++ more) are ∙ append_assoc answer rest more)
+      grind (arith, append_assoc, AnswersLines-append lines others next rest mid more new answered second)
 
   pub AnswersLines-one : (line : List ℕ) (old : S) (answer : List ℕ) (new : S) → Answers old line answer new → AnswersLines Answers (line ∷ []) old answer new
   AnswersLines-one line old answer new does = (answer, [], new, does, (refl, refl), sym (append-nil answer))
@@ -35,17 +34,6 @@ pub record IsAnswered {S : Type 0} (Answers : S → List ℕ → List ℕ → S 
   pub written : Appends old between answers
 
 module _ {S : Type 0} (Answers : S → List ℕ → List ℕ → S → Type 0) (first : S) (had old : Option (List ℕ)) where
-  pub IsAnswered-begun : (held : List ℕ) → held ≡ [] → IsAnswered Answers first had had old held first old
-  IsAnswered-begun held none = record {
-    text = [];
-    lines = [];
-    answers = [];
-    read = Consumes-nil had;
-    cut = λ more. ap (λ (held : List ℕ). lines_of (held ++ more)) (sym none);
-    answered = (refl, refl);
-    written = Appends-nil old;
-  }
-
   module _ (left : Option (List ℕ)) (held : List ℕ) (mid : S) (written rest : Option (List ℕ)) (holds line : List ℕ) (so_far : IsAnswered Answers first had left old held mid written) where
     -- the next line
     pub IsAnswered-more : (new : S) (out : Option (List ℕ)) → GivesLine (Ok true) held holds left rest line
@@ -150,13 +138,7 @@ pub record IsSeen {S T E : Type 0} (talk : Talking S E) (shown : Talking T E) (s
 pub IsSeen-caused : {S T E : Type 0} {talk : Talking S E} {shown : Talking T E} {seen : S → T} {first : S}
     (Unreads : InputError → Type 0) (Unwrites : Type 0) → IsSeen talk shown seen first
     → IsSeen (caused talk Unreads Unwrites) (caused shown Unreads Unwrites) seen first
-IsSeen-caused Unreads Unwrites is = record {
-  takes = is.takes;
-  line = is.line;
-  refuses = is.refuses;
-  unread = λ error why told. (is.unread error why told.0, told.1);
-  unwritten = λ error why told. (is.unwritten error why told.0, told.1);
-}
+IsSeen-caused Unreads Unwrites is = grind arith
 
 module _ {S T E : Type 0} {talk : Talking S E} {shown : Talking T E} {seen : S → T} {first : S} (is : IsSeen talk shown seen first) (had left old new : Option (List ℕ)) where
   abbrev pub AnswersAll-seen : AnswersAll talk first had left old new → AnswersAll shown (seen first) had left old new
@@ -166,12 +148,7 @@ module _ {S T E : Type 0} {talk : Talking S E} {shown : Talking T E} {seen : S �
   pub StopsBehind-seen : (lines : List (List ℕ)) (answers : List ℕ) (last ended : S) → talk.Takes lines first answers last
       → (text : List ℕ) (output : Change (Option (List ℕ))) (why : E) → StopsBehind talk text lines last ended output why
       → StopsBehind shown text lines (seen last) (seen ended) output why
-  StopsBehind-seen lines answers last ended takes text output why (inl (line, begins, inl (refuses, same))) =
-      inl (line, begins, inl (is.refuses lines answers last takes line why ended refuses, same))
-  StopsBehind-seen lines answers last ended takes text output why (inl (line, begins, inr (error, failed, answer, more, prefix))) =
-      inl (line, begins, inr (error, is.unwritten error why failed, answer, is.line lines answers last takes line answer ended more, prefix))
-  StopsBehind-seen lines answers last ended takes text output why (inr (error, failed, no_more, same, stays)) =
-      inr (error, is.unread error why failed, no_more, same, ap seen stays)
+  StopsBehind-seen lines answers last ended takes text output why h2 = grind arith
 
   abbrev pub AnswersSome-seen : (why : E) → AnswersSome talk first had left (change old new) why → AnswersSome shown (seen first) had left (change old new) why
   AnswersSome-seen why some = record {

@@ -1,4 +1,3 @@
-use Rattle.press_files.specs.EntryTemplate.{number_place}
 use Rattle.press_files.proofs.MarkLemmas.{finds_nowhere, stands_once, stands_twice}
 use Rattle.press_files.proofs.EntryTemplateLemmas.{d_is_no_percent}
 use Rattle.press_files.proofs.entry_template.split_number.Goals as goal

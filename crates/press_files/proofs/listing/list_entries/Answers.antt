@@ -1,13 +1,10 @@
-use Rattle.std.proofs.Common.{[], ◌<◌, length, refl, sym, subst, arith}
-use Rattle.std.proofs.KnownBytes.{Appends-nil, Appends-trans}
+use Rattle.std.proofs.Common.{◌<◌, length, sym, subst, arith}
+use Rattle.std.proofs.KnownBytes.{Appends-trans}
 use Rattle.std.proofs.lemmas.Result.{MatchResult-from_err}
 use Rattle.press_devices.specs.Writing.{AppendsPrefix}
 use Rattle.press_devices.proofs.WritesLemmas.{prefix_then, prefix_more}
 use Rattle.press_files.proofs.EntryLines.{entry_lines-next}
 use Rattle.press_files.proofs.listing.list_entries.Goals as goal
-
-pub loop-sheet-init : goal.loop-sheet-init
-loop-sheet-init g c = ([], refl, Appends-nil _)
 
 pub returns-in_err-list_entry_sheet-clause-written : goal.returns-in_err-list_entry_sheet-clause-written
 returns-in_err-list_entry_sheet-clause-written g c =

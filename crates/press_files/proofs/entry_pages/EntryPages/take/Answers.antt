@@ -1,7 +1,6 @@
-use Rattle.std.proofs.Common.{◌≡◌, ◌∙◌, ◌+◌, ◌∷◌, ◌++◌, [], ℕ, List, sym, ap, subst, arith}
+use Rattle.std.proofs.Common.{◌≡◌, ◌∙◌, ◌+◌, ◌∷◌, ◌++◌, [], List, ap, arith}
 use mathlib.Core.Logic.{∥∥₁_map}
 use Rattle.press_sink.specs.declared.delivery.Delivery.{Delivery}
-use Rattle.press_files.specs.declared.entry_sheets.EntrySheet.{EntrySheet}
 use Rattle.press_files.specs.EntryKept.{entry_deliveries_of}
 use Rattle.press_files.specs.Listed.{delivery_of}
 use Rattle.press_files.specs.Numbering.{sides_of}

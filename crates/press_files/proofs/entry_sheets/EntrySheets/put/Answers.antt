@@ -1,9 +1,8 @@
-use Rattle.std.proofs.Common.{◌≡◌, ◌∙◌, ◌<◌, ℕ, ◌+◌, List, [], ◌∷◌, ◌++◌, length, sym, ap, subst, arith}
+use Rattle.std.proofs.Common.{◌≡◌, ◌∙◌, ℕ, ◌+◌, List, [], ◌∷◌, ◌++◌, sym, ap, subst, arith}
 use Rattle.std.specs.List.{All}
 use Rattle.std.proofs.lemmas.List.{length-map, map_push}
 use Rattle.std.proofs.lemmas.List.Elements.{All-append, All-cons, All-nil}
 use Rattle.press_sink.specs.Template.{side_count}
-use Rattle.press_sink.specs.declared.delivery.Delivery.{Delivery}
 use Rattle.press_files.specs.declared.entry_sheets.EntryCount.{EntryCount}
 use Rattle.press_files.specs.declared.entry_sheets.EntrySheet.{EntrySheet}
 use Rattle.press_files.specs.EntryKept.{ArePlaced, entries_of, entry_deliveries_of, numbers_of}
@@ -14,26 +13,13 @@ use Rattle.press_files.proofs.NumberingLemmas.{side_count-small, sides_of-other,
 use Rattle.press_files.proofs.entry_sheets.EntrySheets.put.Goals as goal
 
 pub overflow_add-count : goal.overflow_add-count
-overflow_add-count c =
-    let sheets = c.args.self.now.sheets in
-    let within = occurrences_of-within c.args.sheet.tag (entries_of sheets.items) in
-    let long : length (entries_of sheets.items) ≡ length sheets.items = length-map sheets.items (λ (one : EntrySheet). one.sheet.tag) in
-    omega (arith, c.count-before.ensures.sheets, within, long, sheets.ok.0, sheets.ok.1, sheets.small)
+overflow_add-count c = grind (arith, occurrences_of-within, length-map)
 
 pub overflow_add-count-2 : goal.overflow_add-count-2
-overflow_add-count-2 c =
-    let sheets = c.args.self.now.sheets in
-    let within = sides_of-within c.args.sheet.tag (entry_deliveries_of sheets.items) in
-    let long : length (entry_deliveries_of sheets.items) ≡ length sheets.items = length-map sheets.items (λ (one : EntrySheet). delivery_of one.sheet) in
-    let few = side_count-small c.args.sheet.sheet.value in
-    omega (arith, c.count-before.ensures.sides, c.sides.ensures, within, long, few, c.requires.room.0, sheets.ok.0, sheets.ok.1, sheets.small)
+overflow_add-count-2 c = grind (arith, sides_of-within, length-map, side_count-small)
 
 pub overflow_add-before : goal.overflow_add-before
-overflow_add-before c =
-    let sheets = c.args.self.now.sheets in
-    let within = sides_of-within c.args.sheet.tag (entry_deliveries_of sheets.items) in
-    let long : length (entry_deliveries_of sheets.items) ≡ length sheets.items = length-map sheets.items (λ (one : EntrySheet). delivery_of one.sheet) in
-    omega (arith, c.count-before.ensures.sides, within, long, c.requires.room.0, sheets.ok.0, sheets.ok.1, sheets.small)
+overflow_add-before c = grind (arith, sides_of-within, length-map)
 
 pub invariant_of-self : goal.invariant_of-self
 invariant_of-self c =

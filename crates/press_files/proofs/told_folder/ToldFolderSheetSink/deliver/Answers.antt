@@ -7,7 +7,7 @@ use Rattle.press_files.proofs.told_folder.ToldFolderSheetSink.deliver.Goals as g
 pub invariant_of-self-clause-keeps : goal.invariant_of-self-clause-keeps
 invariant_of-self-clause-keeps g c =
     let some = c.if-self-gt0.true in
-    ∥∥₁_map c.args.self.now.keeps (λ keeps. KeepsFolder-again _ _ _ _ _ _ _ _ (λ none. omega (arith, none, some)) keeps)
+    ∥∥₁_map c.args.self.now.keeps (λ keeps. KeepsFolder-again _ _ _ _ _ (λ none. omega (arith, none, some)) keeps)
 
 pub deliver-requires : goal.deliver-requires
 deliver-requires g c =
@@ -21,7 +21,7 @@ invariant_of-self-in-Ok-clause-keeps g c =
     let numbers = rw c.in-Ok.is at c.deliver.ensures.numbers in
     let delivers = rw c.in-Ok.is at c.deliver.ensures.delivers in
     ∥∥₁_map c.args.self.now.keeps (λ keeps.
-    KeepsFolder-next _ _ _ _ _ (record { tag = c.args.tag; sheet = c.args.sheet.now }) _ _ _ _ _ _ _ _ none c.add.ensures keeps
+    KeepsFolder-next _ _ _ _ _ (record { tag = c.args.tag; sheet = c.args.sheet.now }) _ _ none c.add.ensures keeps
     c.deliver.ensures.template made numbers delivers.1)
 
 pub invariant_of-self-in-Err-SinkFault-clause-keeps : goal.invariant_of-self-in-Err-SinkFault-clause-keeps
@@ -29,4 +29,4 @@ invariant_of-self-in-Err-SinkFault-clause-keeps g c =
     let none : c.args.self.now.faults ≡ 0 = omega (arith, c.if-self-gt0.false) in
     let made = fault_made c.in-Err-SinkFault.field-0 _ _ _ c.in-Err-SinkFault.field-0-is c.in-Err-SinkFault.ensures.made in
     ∥∥₁_map c.args.self.now.keeps
-    (λ keeps. KeepsFolder-failed _ _ _ _ c.args.sheet.now _ _ _ _ _ _ _ _ none keeps c.deliver.ensures.template made)
+    (λ keeps. KeepsFolder-failed _ _ _ _ c.args.sheet.now _ _ none keeps c.deliver.ensures.template made)
