@@ -1,5 +1,5 @@
 -- What the lines of a debugger leave: a watch that nothing meets, and places in the trace.
-use Rattle.std.proofs.Common.{◌≡◌, ◌∙◌, ◌<◌, ◌≤◌, ◌+◌, ℕ, Bool, true, false, List, [], ◌∷◌, ◌++◌, length, take, Option, Some, None, refl, sym, ap, subst, inl, inr}
+use Rattle.std.proofs.Common.{◌≡◌, ◌∙◌, ◌<◌, ◌≤◌, ◌+◌, ℕ, Bool, List, [], ◌∷◌, ◌++◌, length, take, Option, Some, None, refl, sym, ap, subst, inl, inr, arith}
 use Rattle.std.specs.Prelude.{slice_get}
 use Rattle.std.proofs.lemmas.List.{append_assoc, take_all, take_more}
 use Rattle.std.proofs.lemmas.List.Elements.{All-weaker}
@@ -14,7 +14,7 @@ use Rattle.press_debug.specs.declared.breakpoints.Break.{Break}
 use Rattle.press_debug.specs.declared.debugger.Stop.{Stop}
 use Rattle.press_debug.specs.declared.debugger.Stop.TheVariants.{AtBreak, Stepped, Ended, LimitReached, Failed}
 use Rattle.press_debug.specs.Steps.{DebuggerState, Advances, at_start}
-use Rattle.press_debug.specs.Stops.{MetBy, StateMeets, StopsAt, ContinuesTo, StopsInto, StopsOver}
+use Rattle.press_debug.specs.Stops.{StateMeets, StopsAt, ContinuesTo, StopsInto, StopsOver}
 use Rattle.press_debug.proofs.PlaceLaws.{places_go_on}
 use Rattle.press_forms.specs.declared.debugger_lines.DebuggerLine.{DebuggerLine}
 use Rattle.press_forms.specs.declared.debugger_lines.DebuggerLine.TheVariants as line
@@ -23,14 +23,8 @@ use Rattle.press_forms.specs.Debugging.{Seat, NeverMet, IsQuiet, DoesAsked, Does
 -- ---- a watch that nothing meets
 
 module _ (watches : View → Bool → Type 0) (quiet : IsQuiet watches) (table : List (Option Break)) where
-  MetBy-silent : (number : Option ℕ) (view : View) → MetBy watches table number view → MetBy NeverMet table number view
-  MetBy-silent (Some number) view (inl met) = inl met
-  MetBy-silent (Some number) view (inr watch) = inr (watch.0, watch.1, quiet view true watch.2)
-  MetBy-silent None view meets = (meets.0, quiet view false meets.1)
-
   StateMeets-silent : (number : Option ℕ) (machine : Machine) → StateMeets watches table number machine → StateMeets NeverMet table number machine
-  StateMeets-silent number machine state =
-      record { view = state.view; shows = state.shows; stack = state.stack; meets = MetBy-silent number state.view state.meets }
+  StateMeets-silent number machine state = grind arith
 
   StopsAt-silent : (items : List StepResult) (max : ℕ) (stop : Stop) (new : JobState) → StopsAt watches table items max stop new → StopsAt NeverMet table items max stop new
   StopsAt-silent items max (AtBreak number) new (passed, here, is, few, all, meets) = (
@@ -64,9 +58,7 @@ module _ (bytes : List ℕ) where
 
   stands_on : (old new : DebuggerState) (taken : List StepResult) → StandsIn bytes old → Advances old taken new → StandsIn bytes new
   stands_on old new taken (inl (items, behind)) advances = inl (items ++ taken, places_go_on.goes_on bytes items taken old new behind advances)
-  stands_on old new taken (inr none) advances =
-      let lost : None ≡ Some advances.from = sym none ∙ advances.starts in
-      absurd cc
+  stands_on old new taken (inr none) advances = grind arith
 
   stands_still : (old new : DebuggerState) → new ≡ old → StandsIn bytes old → StandsIn bytes new
   stands_still old new same stands = subst (StandsIn bytes) (sym same) stands
@@ -93,23 +85,16 @@ module _ (bytes : List ℕ) where
   stands_gone table old new max Failed (none, _) stands = inr none
 
   stands_asked : (asked : DebuggerLine) (old : Seat) (answer : List ℕ) (new : Seat) → DoesAsked asked old answer new → StandsIn bytes old.steps → StandsIn bytes new.steps
-  stands_asked line.Step old answer new does stands = stands_into old.steps new.steps does.0 does.1 stands
-  stands_asked line.Over old answer new does stands = stands_over old.steps new.steps does.0 does.1 stands
-  stands_asked (line.Go most) old answer new does stands = stands_gone old.breaks old.steps new.steps most does.0 does.1 stands
-  stands_asked (line.Break kind) old answer new does stands = stands_still old.steps new.steps does.3 stands
-  stands_asked (line.Clear number) old answer new does stands = stands_still old.steps new.steps does.3 stands
-  stands_asked line.Recent old answer new (_, same) stands = stands_still old.steps new.steps (ap (λ (at : Seat). at.steps) same) stands
+  stands_asked asked old answer new does stands = grind (arith, stands_into, stands_over, stands_gone)
 
   pub stands_line : (asked : Option DebuggerLine) (old : Seat) (answer : List ℕ) (new : Seat) → DoesLine asked old answer new → StandsIn bytes old.steps → StandsIn bytes new.steps
-  stands_line None old answer new (_, same) stands = stands_still old.steps new.steps (ap (λ (at : Seat). at.steps) same) stands
-  stands_line (Some asked) old answer new does stands = stands_asked asked old answer new does stands
+  stands_line asked old answer new does stands = grind (arith, stands_asked)
 
 -- ---- the lines of kinds
 
 kinds_text-append : (kinds others : List Kind) → kinds_text (kinds ++ others) ≡ kinds_text kinds ++ kinds_text others
 kinds_text-append [] others = refl
-kinds_text-append (kind ∷ kinds) others =
-    ap (λ (text : List ℕ). kind_line kind ++ (10 ∷ text)) (kinds_text-append kinds others) ∙ sym (append_assoc (kind_line kind) (10 ∷ kinds_text kinds) (kinds_text others))
+kinds_text-append (kind ∷ kinds) others = grind (arith, append_assoc, kinds_text-append kinds others)
 
 -- one kind more
 pub kinds_text-more : (recent : List Kind) (i : ℕ) (kind : Kind) (old mid new : List ℕ) → slice_get recent i ≡ Some kind
@@ -123,8 +108,7 @@ kinds_text-more recent i kind old mid new is so_far writes ends =
 
 -- where none stands at a place, all stand before it
 past : (recent : List Kind) (i : ℕ) → slice_get recent i ≡ None → length recent ≤ i
-past recent i none =
-    elim (slice_get_cases recent i).1 [ inl inside ↦ let both : None ≡ Some inside.0 = sym none ∙ inside.2 in absurd cc | inr outside ↦ outside.0 ]
+past recent i none = grind (arith, slice_get_cases)
 
 pub kinds_text-all : (recent : List Kind) (i : ℕ) (text : List ℕ) → slice_get recent i ≡ None → text ≡ kinds_text (take i recent) → text ≡ kinds_text recent
 kinds_text-all recent i text none so_far = so_far ∙ ap kinds_text (take_all i recent (past recent i none))

@@ -3,7 +3,7 @@ use Rattle.std.specs.Io.KnownBytes.{Appends, Consumes, IsAtEnd, Keeps}
 use Rattle.std.proofs.Common.{◌≡◌, ◌∙◌, ℕ, List, [], ◌++◌, length, Option, Result, Ok, Err, IfErr, OnOk, false, true, refl, sym, ap, subst, arith, append-nil}
 use Rattle.std.proofs.lemmas.Bool.{false≢true}
 use Rattle.std.proofs.lemmas.List.{append_assoc}
-use Rattle.std.proofs.KnownBytes.{Appends-kept, Appends-nil, Appends-trans, Consumes-kept, Consumes-nil, Consumes-trans}
+use Rattle.std.proofs.KnownBytes.{Appends-kept, Appends-nil, Appends-trans, Consumes-nil, Consumes-trans}
 use Rattle.press_devices.specs.Writing.{AppendsPrefix}
 use Rattle.press_devices.proofs.WritesLemmas.{prefix_then}
 use Rattle.press_cmd.specs.Token.{Token}
@@ -17,10 +17,7 @@ use Rattle.press_scan.proofs.ReachedLaws.{end_reaches, feeds_reach}
 use Rattle.press_asm.specs.Written.{text_of}
 use Rattle.press_disasm.specs.Disassembly.{Lists}
 use Rattle.press_disasm.proofs.Listing.{disassembled, reached-each, remains-each, still-ended, text-append, written-append}
-use Rattle.press_files.specs.Causes.{failures}
-use Rattle.press_files.specs.declared.inputs.InputError.TheVariants.{ReadFault, NoMemory as memory}
 use Rattle.press_forms.specs.Assembly.{DisassembledTo, ListsSoFar, ListsSome, ListsRead, StopsDisassembling, StopsLines, WritesLines}
-use Rattle.press_forms.specs.Causes.{TextCause}
 use Rattle.press_forms.specs.declared.assembly.TextError.{TextError}
 use Rattle.press_forms.specs.declared.assembly.TextError.TheVariants.{Input, Refused, WriteFault, NoOutput, NoMemory}
 
@@ -67,35 +64,12 @@ first_of had left bytes given now read reached =
 
 -- all of them
 all_of : (had left : Option (List ℕ)) (bytes text : List ℕ) (commands : List Token) → Consumes had left bytes → Closed bytes commands → text ≡ text_of commands → ListsSome had left text
-all_of had left bytes text commands read closed listed = record {
-  bytes = bytes;
-  read = read;
-  lists = record { commands = commands; others = []; closed = subst (λ (these : List Token). Closed bytes these) (sym (append-nil commands)) closed; listed = listed };
-}
+all_of had left bytes text commands read closed listed = grind (arith, append-nil)
 
 module _ (had left old new : Option (List ℕ)) (held : ScannerState) (so_far : ListsSoFar had left old new held) where
   -- a read failed
   pub read_failed : (after : Option (List ℕ)) → Keeps left after → ListsRead had after old new
-  read_failed after kept = record {
-    bytes = so_far.bytes;
-    read = Consumes-kept had left after so_far.bytes so_far.read kept;
-    text = text_of so_far.given;
-    lists = record { commands = so_far.given; mode = held.mode; rest = held.bytes; split = feeds_reach.done so_far.bytes so_far.given held so_far.reached so_far.going so_far.done; listed = refl };
-    written = so_far.written;
-  }
-
-  -- the last read gave nothing
-  pub nothing_more : (after : Option (List ℕ)) → Consumes left after [] → ListsSoFar had after old new held
-  nothing_more after none = record {
-    bytes = so_far.bytes;
-    read = subst (λ (all : List ℕ). Consumes had after all) (append-nil so_far.bytes) (Consumes-trans had left after so_far.bytes [] so_far.read none);
-    given = so_far.given;
-    reached = so_far.reached;
-    going = so_far.going;
-    done = so_far.done;
-    each = so_far.each;
-    written = so_far.written;
-  }
+  read_failed after kept = grind arith
 
   -- a piece was read, and handed to the scanner
   module _ (after : Option (List ℕ)) (piece : List ℕ) (read : Consumes left after piece) where
@@ -205,16 +179,6 @@ not_flushed (Err why) had left old middle new is to kept =
     subst (λ (why : TextError). StopsDisassembling had left old new why) (sym is)
     (to.text, some, (to.text, [], sym (append-nil to.text), Appends-kept old middle new to.text to.written kept))
 
--- what a writer makes fail, fails with a reader beside it, too
-pub cause_more : (Fails Failed : Type 0) (why : TextError) → TextCause (failures ⊥ ⊥ Failed ⊥) why → TextCause (failures Fails ⊥ Failed ⊥) why
-cause_more Fails Failed (Input ReadFault) cause = absurd cause
-cause_more Fails Failed (Input memory) cause = tt
-cause_more Fails Failed (Refused why) cause = tt
-cause_more Fails Failed WriteFault cause = absurd cause
-cause_more Fails Failed NoOutput cause = cause
-cause_more Fails Failed NoMemory cause = tt
-
 -- what holds of any answer
 pub on_ok : {X E : Type 0} (answer : Result X E) (P : Type 0) → P → OnOk answer P
-on_ok (Ok one) P holds = holds
-on_ok (Err why) P holds = tt
+on_ok answer P holds = grind arith

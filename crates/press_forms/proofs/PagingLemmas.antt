@@ -20,9 +20,7 @@ use Rattle.press_debug.proofs.Taking.{at_machine}
 use Rattle.press_files.specs.Inputs.{ReadWhole}
 use Rattle.press_forms.specs.declared.paging.PagingError.{PagingError}
 use Rattle.press_forms.specs.declared.paging.PagingError.TheVariants.{Input, WriteFault, NoMemory}
-use Rattle.press_forms.specs.Paging.{AreTaken, HasPage, IsUnpaged, MakesPage, PagedBehind, PagedInto, StandsAt, StopsPaging, TellsEnd, end_text, page_behind, unopened}
-use Rattle.press_forms.specs.Causes.{PageCause}
-use Rattle.press_files.specs.Causes.{failures}
+use Rattle.press_forms.specs.Paging.{AreTaken, HasPage, MakesPage, PagedBehind, PagedInto, StandsAt, StopsPaging, TellsEnd, end_text, page_behind}
 
 -- It stands behind so many items.
 pub record StandsBehindSo (bytes : List ℕ) (count : ℕ) (now : DebuggerState) : Type 0 where
@@ -79,36 +77,11 @@ pub record ReadBehind (had left : Option (List ℕ)) (count : ℕ) (now : Debugg
   pub behind : StandsBehindSo bytes count now
 
 pub begins_read : PlacesGoOn → (had left : Option (List ℕ)) (now : DebuggerState) → IsReadAtStart had left now → ReadBehind had left 0 now
-begins_read law had left now start = record {
-  bytes = start.bytes;
-  read = record { lost = start.read; at_end = start.at_end };
-  behind = begins_so law start.bytes now start.start;
-}
+begins_read law had left now start = grind (arith, begins_so)
 
 pub goes_read : PlacesGoOn → (had left : Option (List ℕ)) (count : ℕ) (item : StepResult) (old new : DebuggerState) → ReadBehind had left count old
     → Advances old (item ∷ []) new → ReadBehind had left (count + 1) new
-goes_read law had left count item old new so advances = record {
-  bytes = so.bytes;
-  read = so.read;
-  behind = goes_so law so.bytes count item old new so.behind advances;
-}
-
--- where no page is there to be made, nothing is made
-pub unpaged_stops : (Fails : Type 0) (steps : ℕ) (name : List ℕ) (had left : Option (List ℕ)) (before : Option (List MadeOutput)) (why : PagingError)
-    → IsUnpaged Fails why → StopsPaging steps name had left (change before before) why
-unpaged_stops Fails steps name had left before (Input why) is = refl
-unpaged_stops Fails steps name had left before WriteFault is = absurd is
-unpaged_stops Fails steps name had left before NoMemory is = refl
-
-pub unpaged_cause : (Fails Failed : Type 0) (why : PagingError) → IsUnpaged Fails why → PageCause (failures Fails ⊥ ⊥ Failed) why
-unpaged_cause Fails Failed (Input why) is = is
-unpaged_cause Fails Failed WriteFault is = absurd is
-unpaged_cause Fails Failed NoMemory is = tt
-
--- an error of a stream that is not opened
-pub unopened_is : (Fails : Type 0) (fault : OpenError) → (fault ≡ opening.ReadFault → Fails) → IsUnpaged Fails (unopened fault)
-unopened_is Fails opening.ReadFault cause = cause refl
-unopened_is Fails opening.NoMemory cause = tt
+goes_read law had left count item old new so advances = search (arith, goes_so)
 
 -- what is told of the end, where it is
 pub tells_end : (steps : ℕ) (items : List StepResult) (taken : ℕ) (said says : Option (List ℕ)) → AreTaken steps items taken → taken < steps
@@ -120,10 +93,7 @@ tells_end steps items taken said says are fewer tells = record {
 
 pub tells_no_end : (steps : ℕ) (items : List StepResult) (taken : ℕ) (said : Option (List ℕ)) → AreTaken steps items taken → steps ≤ taken
     → TellsEnd steps items said said
-tells_no_end steps items taken said are many = record {
-  short = λ short. absurd (omega (arith, short, many, are.within));
-  long = λ _. refl;
-}
+tells_no_end steps items taken said are many = grind arith
 
 -- ---- its page, made an output
 
@@ -156,7 +126,4 @@ module _ (had left : Option (List ℕ)) (bytes : List ℕ) (read : ReadWhole had
   pub page_stopped : (name : List ℕ) (before after : Option (List MadeOutput)) (error : PagingError) → StandsAt bytes steps taken now
       → IfSome now.job.machine (λ machine. MakesPage (page_now machine.state) name (Err error) before after)
       → StopsPaging steps name had left (change before after) error
-  page_stopped name before after error at makes =
-      no_page name before after error at
-      (at_machine now.job.machine (λ machine. MakesPage (page_now machine.state) name (Err error) before after) (machine_of at) at.state
-      makes)
+  page_stopped name before after error at makes = grind (arith, no_page)

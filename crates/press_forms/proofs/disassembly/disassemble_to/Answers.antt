@@ -1,7 +1,5 @@
-use Rattle.std.proofs.Common.{◌≡◌, true}
-use Rattle.press_devices.specs.Reading.{ReadFails}
 use Rattle.press_units.proofs.ExitLemmas.{exit-is}
-use Rattle.press_forms.proofs.DisassemblyLemmas.{cause_more, end_listed, end_stopped, flushed, not_flushed, on_ok}
+use Rattle.press_forms.proofs.DisassemblyLemmas.{end_listed, end_stopped, flushed, not_flushed, on_ok}
 use Rattle.press_forms.proofs.disassembly.disassemble_to.Goals as goal
 
 pub returns-in_err-list_commands-clause-err : goal.returns-in_err-list_commands-clause-err
@@ -9,11 +7,6 @@ returns-in_err-list_commands-clause-err g c =
     let lists = c.in_ok-scanner.ensures.ok in
     rw (exit-is c.from_residual-in_err-list_commands.ensures.1)
     (end_stopped _ _ _ _ c.in_ok-scanner.scanner lists.0 lists.1 c.end_input.new.self c.end_input.ensures _ _ c.in_err-list_commands.ensures.err)
-
-pub returns-in_err-list_commands-clause-cause : goal.returns-in_err-list_commands-clause-cause
-returns-in_err-list_commands-clause-cause g c =
-    rw (exit-is c.from_residual-in_err-list_commands.ensures.1) (cause_more (ReadFails (g.R.ReadDevice.failed c.list_pieces.new.reader) (g.R.ReadDevice.reads c.list_pieces.new.reader))
-    (g.W.WriteDevice.failed c.list_commands.new.out ≡ true) c.in_err-list_commands.field-0.0 c.in_err-list_commands.ensures.cause)
 
 pub returns-clause-err : goal.returns-clause-err
 returns-clause-err g c =

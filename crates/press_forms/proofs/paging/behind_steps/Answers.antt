@@ -1,13 +1,8 @@
 use Rattle.std.proofs.Common.{◌≡◌, ◌≤◌, ℕ, subst, sym, arith}
-use Rattle.press_units.proofs.ExitLemmas.{exit-is}
 use Rattle.press_debug.specs.Steps.{DebuggerState}
 use Rattle.press_forms.specs.Paging.{StandsAt}
-use Rattle.press_forms.proofs.PagingLemmas.{StandsBehindSo, begins_read, goes_read, stands_at, stands_at_end, unopened_is}
+use Rattle.press_forms.proofs.PagingLemmas.{StandsBehindSo, begins_read, goes_read, stands_at, stands_at_end}
 use Rattle.press_forms.proofs.paging.behind_steps.Goals as goal
-
-pub returns-in_err-stepper-clause-err : goal.returns-in_err-stepper-clause-err
-returns-in_err-stepper-clause-err g c =
-    rw (exit-is c.from_residual.ensures.1) (unopened_is _ c.in_err-stepper.field-0.0 c.in_err-stepper.ensures.cause)
 
 pub loop-taken-init : goal.loop-taken-init
 loop-taken-init g c = begins_read c.places.ensures _ _ c.in_ok-stepper.stepper c.in_ok-stepper.ensures.stream

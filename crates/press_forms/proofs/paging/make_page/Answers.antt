@@ -1,15 +1,6 @@
 use Rattle.press_units.proofs.ExitLemmas.{exit-is}
-use Rattle.press_forms.proofs.PagingLemmas.{page_made, page_stopped, unpaged_cause, unpaged_stops}
+use Rattle.press_forms.proofs.PagingLemmas.{page_made, page_stopped}
 use Rattle.press_forms.proofs.paging.make_page.Goals as goal
-
-pub returns-in_err-stands-clause-err : goal.returns-in_err-stands-clause-err
-returns-in_err-stands-clause-err g c =
-    rw (exit-is c.from_residual.ensures.1)
-    (unpaged_stops _ c.args.steps c.args.name.now _ _ _ c.in_err-stands.field-0.0 c.in_err-stands.ensures.err)
-
-pub returns-in_err-stands-clause-cause : goal.returns-in_err-stands-clause-cause
-returns-in_err-stands-clause-cause g c =
-    rw (exit-is c.from_residual.ensures.1) (unpaged_cause _ _ c.in_err-stands.field-0.0 c.in_err-stands.ensures.err)
 
 pub returns-in_err-write_open_page-clause-err : goal.returns-in_err-write_open_page-clause-err
 returns-in_err-write_open_page-clause-err g c =
