@@ -1,5 +1,5 @@
 -- The one event of a line, that happened or was stopped, and the line of its answer.
-use Rattle.std.proofs.Common.{◌≡◌, ◌∙◌, ℕ, List, [], ◌∷◌, ◌++◌, map, Option, Some, None, option_map, Ok, Err, refl, sym, ap, subst}
+use Rattle.std.proofs.Common.{◌≡◌, ◌∙◌, ℕ, List, [], ◌∷◌, ◌++◌, map, Option, Some, None, option_map, Ok, Err, refl, sym, ap, subst, arith}
 use Rattle.std.specs.List.{All, flat_map}
 use Rattle.std.proofs.lemmas.List.{append-nil}
 use Rattle.std.proofs.lemmas.List.Elements.{All-head}
@@ -8,8 +8,7 @@ use Rattle.press_sink.specs.declared.delivery.Delivery.{Delivery}
 use Rattle.press_sink.specs.SinkLog.{SheetLog}
 use Rattle.press_core.specs.declared.turn.Turn.{Turn}
 use Rattle.press_core.specs.declared.turn.TurnError.{TurnError}
-use Rattle.press_core.specs.declared.turn.TurnError.TheVariants as turn_fault
-use Rattle.press_core.specs.Events.{Event, Message, TurnOn, Operator, EventAnswer, Response, Turned, Nothing, Happens}
+use Rattle.press_core.specs.Events.{Event, Message, TurnOn, EventAnswer, Response, Turned, Nothing, Happens}
 use Rattle.press_core.specs.Turns.{FaultsAfter}
 use Rattle.press_core.specs.World.{World}
 use Rattle.press_files.specs.EntryPages.{page_lines}
@@ -95,9 +94,7 @@ TakesEvent-happened parts event old new before after none response no_turns turn
 pub TakesEvent-message : (parts : Option EntryParts) (text bytes : List ℕ) (images pages : List Page) (old new : Standing) (answer : List ℕ)
     → text ≡ bytes → images ≡ pages → TakesEvent parts (Message text images) old new answer
     → TakesEvent parts (Message bytes pages) old new answer
-TakesEvent-message parts text bytes images pages old new answer is are taken =
-    subst (λ (of : List ℕ). TakesEvent parts (Message of pages) old new answer) is
-    (subst (λ (of : List Page). TakesEvent parts (Message text of) old new answer) are taken)
+TakesEvent-message parts text bytes images pages old new answer is are taken = grind arith
 
 -- ---- the one that was stopped
 
@@ -117,25 +114,11 @@ none-happened world last (happening ∷ happenings) are leads = cc
 fails : (event : Event) (old new : Standing) (answer : EventAnswer) (handed : List Delivery) (error : TurnError) (said says : List ℕ)
     → Happens old.world event answer handed new.world → new.delivered ≡ old.delivered ++ handed
     → FaultsAfter {A = Turn} (Err error) old.faults new.faults → FaultLeaves answer error said says → EventFails event old (stopped_by error) new
-fails (TurnOn engine most) old new (Turned result) handed turn_fault.NoMemory said says happens delivered faults leaves = (handed, delivered)
-fails (TurnOn engine most) old new (Turned result) handed turn_fault.NoEngine said says happens delivered faults leaves =
-    (handed, subst (λ (one : _). Happens old.world (TurnOn engine most) (Turned one) handed new.world) leaves.0 happens, delivered, faults)
-fails (TurnOn engine most) old new (Turned result) handed turn_fault.SinkFault said says happens delivered faults leaves =
-    (handed, subst (λ (one : _). Happens old.world (TurnOn engine most) (Turned one) handed new.world) leaves.0 happens, delivered, faults)
-fails (TurnOn engine most) old new (Response response) handed error said says happens delivered faults leaves = absurd happens
-fails (TurnOn engine most) old new Nothing handed error said says happens delivered faults leaves = absurd happens
-fails (Message text images) old new (Response response) handed error said says happens delivered faults leaves = (ap stopped_by leaves.0, (handed, delivered))
-fails (Message text images) old new (Turned result) handed error said says happens delivered faults leaves = absurd happens
-fails (Message text images) old new Nothing handed error said says happens delivered faults leaves = absurd happens
-fails (Operator command) old new Nothing handed error said says happens delivered faults leaves = absurd leaves
-fails (Operator command) old new (Response response) handed error said says happens delivered faults leaves = absurd happens
-fails (Operator command) old new (Turned result) handed error said says happens delivered faults leaves = absurd happens
+fails event old new answer handed error said says happens delivered faults leaves = grind arith
 
 -- want of memory is a reason at each
 pub fails-memory : (event : Event) (old new : Standing) → KeepsDelivered old new → EventFails event old whys.NoMemory new
-fails-memory (TurnOn engine most) old new keeps = keeps
-fails-memory (Message text images) old new keeps = (refl, keeps)
-fails-memory (Operator command) old new keeps = (refl, keeps)
+fails-memory event old new keeps = grind arith
 
 -- what is told behind no events
 told-none : (told : Option (List Delivery)) (had : List Delivery) (happenings : List Transition) (before : Option (List Delivery))

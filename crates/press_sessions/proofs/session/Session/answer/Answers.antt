@@ -1,9 +1,8 @@
 use Rattle.std.proofs.Common.{◌≡◌, ◌∙◌, ℕ, List, Bor, map, Some, None, option_map, sym, ap, inl}
 use Rattle.std.proofs.lemmas.Result.{IfOk-weaker, IfErr-weaker}
-use Rattle.press_devices.specs.Reading.{SomeFails}
 use Rattle.press_sessions.specs.EventLines.{event_in, event_of_line, line_seen}
 use Rattle.press_sessions.specs.Sessions.{by_rules, standing}
-use Rattle.press_files.specs.NamedInputs.{named}
+use Rattle.press_files.specs.Edge.{input_called}
 use Rattle.press_sessions.proofs.SessionLemmas.{TakesLines-event, TakesLines-none}
 use Rattle.press_sessions.proofs.session.Session.answer.Goals as goal
 
@@ -12,7 +11,7 @@ returns-in-Some-clause-ok g c =
     let now : List (Bor (List ℕ)) → List (List ℕ) = map {A = Bor (List ℕ)} {B = List ℕ} (λ word. word.now) in
     let is : event_of_line c.args.line.now ≡ Some (line_seen c.in-Some.event) =
     ap event_in (sym (ap now c.deref.ensures.value ∙ c.in_ok-words.ensures)) ∙ sym c.event_of.ensures ∙ ap (option_map line_seen) c.in-Some.is in
-    let input = named (SomeFails g.I.Input.ReadDevice.failed g.I.Input.ReadDevice.reads) (g.I.NamedInputs.bytes c.args.inputs.now) (g.I.NamedInputs.missing c.args.inputs.now) in
+    let input = input_called g.I.Input.ReadDevice g.I.NamedInputs c.args.inputs.now in
     IfOk-weaker c.happen.result _ _
     (λ answer taken goes_on.
     TakesLines-event (by_rules input goes_on g.D.EntryFolder.parts) c.args.line.now (line_seen c.in-Some.event)
@@ -31,6 +30,6 @@ returns-clause-ok g c goes_on =
     let now : List (Bor (List ℕ)) → List (List ℕ) = map {A = Bor (List ℕ)} {B = List ℕ} (λ word. word.now) in
     let is : event_of_line c.args.line.now ≡ None =
     ap event_in (sym (ap now c.deref.ensures.value ∙ c.in_ok-words.ensures)) ∙ sym c.event_of.ensures ∙ ap (option_map line_seen) c.in-None.is in
-    let input = named (SomeFails g.I.Input.ReadDevice.failed g.I.Input.ReadDevice.reads) (g.I.NamedInputs.bytes c.args.inputs.now) (g.I.NamedInputs.missing c.args.inputs.now) in
+    let input = input_called g.I.Input.ReadDevice g.I.NamedInputs c.args.inputs.now in
     TakesLines-none (by_rules input goes_on g.D.EntryFolder.parts) c.args.line.now (standing c.args.self.now)
     c.in_ok-line_of-in-None.field-0.items is c.in_ok-line_of-in-None.ensures
