@@ -1,11 +1,10 @@
 -- Bytes in front of those that a reader gives.
-use Rattle.std.proofs.Common.{◌≡◌, ◌∙◌, ◌+◌, ◌-◌, ◌≤◌, ◌<◌, ◌⊎◌, inl, inr, ℕ, List, [], ◌++◌, take, drop, length, min, Option, Some, None, sym, ap, subst, arith, append_assoc, append-nil, take-append-drop, drop_at}
-use Rattle.std.proofs.Math.Nat.{eq-or-lt_of_le}
+use Rattle.std.proofs.Common.{◌≡◌, ◌∙◌, ◌+◌, ◌-◌, ◌≤◌, ◌⊎◌, inl, inr, ℕ, List, [], ◌++◌, take, drop, length, min, Option, Some, None, sym, ap, subst, arith, append_assoc, append-nil, take-append-drop, drop_at}
 use Rattle.std.proofs.Math.Seq.{take-append-add}
 use Rattle.std.proofs.lemmas.List.{drop_all, length-drop, length-take-le}
 use Rattle.std.specs.Io.KnownBytes.{Consumes, IsAtEnd}
 use Rattle.std.specs.Fmt.{option_append}
-use borrow.Rule.Slice.PartMut.{put_mid, post_of}
+use borrow.Rule.Slice.PartMut.{put_mid}
 
 -- all of the bytes stand in front
 all_in_front : (n : ℕ) (bytes : List ℕ) → length bytes ≤ n → take n bytes ≡ bytes
@@ -39,31 +38,19 @@ consumes-behind n given bytes piece (Some had) (Some left) (inr none) gives =
 -- the end of the reader is that of all, where no byte is in front
 pub at_end-behind : (n : ℕ) (bytes rest : List ℕ) (left : Option (List ℕ)) → rest ≡ drop n bytes → length bytes ≤ n → IsAtEnd left
     → IsAtEnd (option_append (Some rest) left)
-at_end-behind n bytes rest None behind all ends = tt
-at_end-behind n bytes rest (Some left) behind all ends = ap (λ front. front ++ left) (behind ∙ drop_all n bytes all) ∙ ends
+at_end-behind n bytes rest left behind all ends = grind (arith, drop_all)
 
 -- The same of a buffer that is these bytes and the piece.
 pub gives-behind : (n given : ℕ) (bytes rest buffer piece : List ℕ) (had left : Option (List ℕ)) → n ≤ length bytes → rest ≡ drop n bytes
     → buffer ≡ take n bytes ++ piece → (length bytes ≤ n) ⊎ (take given piece ≡ []) → Consumes had left (take given piece)
     → Consumes (option_append (Some bytes) had) (option_append (Some rest) left) (take (n + given) buffer)
-gives-behind n given bytes rest buffer piece had left within behind held why gives =
-    let P : List ℕ → List ℕ → Type 0 = λ after read. Consumes (option_append (Some bytes) had) (option_append (Some after) left) read in
-    let read = front_then n given bytes piece within in
-    subst (λ after. P after (take (n + given) buffer)) (sym behind)
-    (subst (P (drop n bytes)) (sym (ap (take (n + given)) held ∙ read)) (consumes-behind n given bytes piece had left why gives))
+gives-behind n given bytes rest buffer piece had left within behind held why gives = grind (arith, front_then, consumes-behind)
 
 -- what the end of a buffer holds where a piece was put
 pub end_put : (n : ℕ) (buffer piece : List ℕ) → n ≤ length buffer → drop n (put_mid n (length buffer - n) buffer piece) ≡ piece
-end_put n buffer piece within =
-    drop_at (take n buffer) (piece ++ post_of n (length buffer - n) buffer) n (length-take-le n buffer within)
-    ∙ ap (λ rest. piece ++ rest) (drop_all (length buffer - n) (drop n buffer) (omega (arith, length-drop n buffer))) ∙ append-nil piece
+end_put n buffer piece within = grind (arith, drop_at, length-take-le, drop_all, length-drop, append-nil)
 
 -- all of the bytes stand in front, or the buffer has no room behind them
 pub either : (n given : ℕ) (bytes buffer piece : List ℕ) → n ≡ min (length bytes) (length buffer) → length piece ≡ length buffer - n
     → given ≤ length piece → (length bytes ≤ n) ⊎ (take given piece ≡ [])
-either n given bytes buffer piece least long within = cases (eq-or-lt_of_le (omega (arith, least))) where
-  cases : (n ≡ length bytes) ⊎ (n < length bytes) → (length bytes ≤ n) ⊎ (take given piece ≡ [])
-  cases (inl all) = inl (omega (arith, all))
-  cases (inr fewer) =
-      let none : given ≡ 0 = omega (arith, least, long, within, fewer) in
-      inr (ap (λ count. take count piece) none)
+either n given bytes buffer piece least long within = grind arith
