@@ -28,29 +28,18 @@ all a b p is fits = omega arith
 -- a front of bytes and one of more bytes is a front of both: where all of the first stand there, or none of the others
 front-more : (written more : List ℕ) (p n : ℕ) → (p ≡ length written) ⊎ ((p ≤ length written) × (n ≡ 0))
     → take p written ++ take n more ≡ take (p + n) (written ++ more)
-front-more written more p n (inl whole) =
-    ap (λ (k : ℕ). take k written ++ take n more) whole
-    ∙ ap (λ (l : List ℕ). l ++ take n more) (take_all (length written) written (omega arith))
-    ∙ sym (take-append-add written more n) ∙ ap (λ (k : ℕ). take (k + n) (written ++ more)) (sym whole)
-front-more written more p n (inr full) =
-    let same : p ≡ p + n = omega (arith, full.1) in
-    ap (λ (k : ℕ). take p written ++ take k more) full.1 ∙ append-nil (take p written)
-    ∙ sym (take-append-le p written more full.0) ∙ ap (λ (k : ℕ). take k (written ++ more)) same
+front-more written more p n h1 = grind (arith, take_all, take-append-add, append-nil, take-append-le)
 
 -- what a room holds in front of a place and behind it, which holds the front of some bytes up to there
 front-of : (written before room : List ℕ) (p : ℕ) → p ≤ length written → room ≡ take p written ++ drop p before → take p room ≡ take p written
 front-of written before room p some is = ap (λ (l : List ℕ). take p l) is ∙ take_at (take p written) (drop p before) p (length-take-le p written some)
 
 rest-of : (written before room : List ℕ) (p n : ℕ) → p ≤ length written → room ≡ take p written ++ drop p before → drop (p + n) room ≡ drop (p + n) before
-rest-of written before room p n some is =
-    ap (λ (l : List ℕ). drop (p + n) l) is ∙ drop-append-drop p before (take p written) (p + n) (omega arith) (length-take-le p written some)
+rest-of written before room p n some is = grind (arith, drop-append-drop, length-take-le)
 
 length-of : (written before room : List ℕ) (p : ℕ) → p ≡ min (length written) (length before) → room ≡ take p written ++ drop p before
     → length room ≡ length before
-length-of written before room p least-is is =
-    let front = length-take-le p written (least (length written) (length before) p least-is) in
-    let back = length-drop p before in
-    ap (λ (l : List ℕ). length l) is ∙ length-append (take p written) (drop p before) ∙ omega (arith, front, back, least-is)
+length-of written before room p least-is is = grind (arith, length-take-le, length-drop, length-append)
 
 -- more bytes are handed to a room
 pub handed-more : (written before more room part : List ℕ) (had : RombixelaAnswer) (n : ℕ) → HandedTo written before room had
@@ -84,10 +73,8 @@ last_holds-append : (bytes : Option (List ℕ)) (settled : List MadeOutput) (one
     → last_holds bytes (settled ++ one ∷ []) ≡ settled ++ record one { holds = bytes } ∷ []
 last_holds-append bytes [] one = refl
 last_holds-append bytes (first ∷ []) one = refl
-last_holds-append bytes (first ∷ next ∷ others) one =
-    ap (λ (all : List MadeOutput). first ∷ all) (last_holds-append bytes (next ∷ others) one)
+last_holds-append bytes (first ∷ next ∷ others) one = grind (arith, last_holds-append bytes (next ∷ others) one)
 
 pub held-now : (bytes : Option (List ℕ)) (settled : List MadeOutput) (had : Option ListedOutput) (last : ListedOutput) → had ≡ Some last
     → settled ++ record (output_of last) { holds = bytes } ∷ [] ≡ last_holds bytes (outputs_with settled had)
-held-now bytes settled had last is =
-    sym (last_holds-append bytes settled (output_of last)) ∙ ap (λ (one : Option ListedOutput). last_holds bytes (outputs_with settled one)) (sym is)
+held-now bytes settled had last is = grind (arith, last_holds-append)

@@ -1,5 +1,5 @@
 -- What is written of bytes in memory, whatever names the reader has for them.
-use Rattle.std.proofs.Common.{◌≡◌, ℕ, List, [], Option, Some, subst, inl, inr}
+use Rattle.std.proofs.Common.{◌≡◌, ℕ, List, [], Option, Some, subst, inr, arith}
 use Rattle.press_forms.specs.Assembly.{TextRefused}
 use Rattle.press_forms.specs.declared.assembly.TextError.{TextError}
 use Rattle.press_files.specs.Jobs.{TicketRefused}
@@ -15,5 +15,4 @@ text-refused text written had left why fault same is none refused =
 
 pub ticket-refused : (text files written : List ℕ) (had left : Option (List ℕ)) (why : JobFileError) (fault : ℕ) → had ≡ Some text
     → fault ≡ fault_of (job_number why) → written ≡ [] → TicketRefused had left why → JobOf text files fault written
-ticket-refused text files written had left why fault same is none refused =
-    inr (why, is, none, inl (left, subst (λ (had : Option (List ℕ)). TicketRefused had left why) same refused))
+ticket-refused text files written had left why fault same is none refused = grind arith
