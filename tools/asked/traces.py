@@ -22,6 +22,10 @@ POWER_ON = {
 }
 
 
+# Why a command has no effect.
+NO_ROW, NO_VALUE, IN_HPGL = ({"refused": why} for why in ("no row", "no such value", "HP-GL/2"))
+
+
 def lines_of(*steps):
     """Lines of steps: each a place, how many bytes, the kind, and what else is told; step, depth, sheets and cursor go on where nothing is said."""
     told, lines = {"depth": 0, "sheets": 0, "x": 0, "y": 900}, []
@@ -79,7 +83,7 @@ BODY = asked(
     (12, 5, "par &fX", {"view": {"macros": {"defining": None}}}),
     (17, 5, "par &fX", {"depth": 1}),
     (17, 5, "par *pX", {"depth": 0, "x": 48}),
-    (22, 3, "brk", {}),
+    (22, 3, "brk", NO_ROW),
     (25, 0, "uel", {"x": 0, "view": {"macros": {"id": 0}}}),
 )
 # Broken bytes and what broke them are recorded, and are steps of the macro.
@@ -91,8 +95,8 @@ BROKEN = asked(
     (10, 1, "ctl 01", {"recorded": True}),
     (11, 5, "par &fX", {"view": {"macros": {"defining": None}}}),
     (16, 2, "par &fX", {"depth": 1}),
-    (16, 2, "brk", {}),
-    (16, 2, "ctl 01", {"depth": 0}),
+    (16, 2, "brk", NO_ROW),
+    (16, 2, "ctl 01", NO_ROW | {"depth": 0}),
     (18, 0, "uel", {"view": {"macros": {"id": 0}}}),
 )
 # A reply, and places that are pushed.
@@ -177,9 +181,9 @@ VARIABLES_SET = asked(
     (90, 27, "pjl", {"view": {"current": {"binding": 2}, "page": {"binding": 2}}}),
     (117, 24, "pjl", {"view": {"current": {"resolution": 600}, "page": {"resolution": 600}}}),
     (141, 18, "pjl", {"view": {"current": {"copies": 2}, "settings": {"copies": 2}}}),
-    (159, 1, "txt", {}),
-    (160, 1, "txt", {}),
-    (161, 1, "txt", {}),
+    (159, 1, "txt", NO_ROW),
+    (160, 1, "txt", NO_ROW),
+    (161, 1, "txt", NO_ROW),
     (162, 0, "uel", {}),
 )
 # Two copies go out with a reply each, which one line joins; a job counts its own.
@@ -246,8 +250,8 @@ def in_runs(stream, *steps):
     return words.replace("trace ", "trace --runs ", 1), status, "".join(told), given
 
 
-def run(at, size, last="txt", **others):
-    return at, size, last, others | ({"steps": size} if size > 1 else {})
+def run(at, size, last="txt", why=NO_ROW, **others):
+    return at, size, last, others | why | ({"steps": size} if size > 1 else {})
 
 
 # Text, up to a control character, which has an effect; one byte by itself has its own line. What a command changes is told behind it.
@@ -260,8 +264,8 @@ RUNS = in_runs(
     (10, 1, "ctl 0A", {"y": 2100}),
     run(11, 1),
     (12, 5, "par *pX", {"x": 24}),
-    (17, 1, "par *pD", {}),
-    (18, 1, "par *pE", {}),
+    (17, 1, "par *pD", NO_ROW),
+    (18, 1, "par *pE", NO_ROW),
     (19, 2, "esc E", {"x": 0, "y": 900}),
     (21, 0, "uel", {}),
 )
@@ -269,9 +273,9 @@ RUNS = in_runs(
 PLOT = in_runs(
     b"\x1b%0BPU1;\r\nPD;\x1b&l1X\x0c;\x1b%0A\nx",
     (0, 4, "par %B", {"view": {"settings": POWER_ON["settings"] | {"hp_gl": True}}}),
-    run(4, 9),
-    (13, 5, "par &lX", {}),
-    run(18, 2),
+    run(4, 9, why=IN_HPGL),
+    (13, 5, "par &lX", IN_HPGL),
+    run(18, 2, why=IN_HPGL),
     (20, 4, "par %A", {"view": {"settings": {"hp_gl": False}}}),
     (24, 1, "ctl 0A", {"y": 2100}),
     run(25, 1),
@@ -300,8 +304,8 @@ RECORDED = in_runs(
     (8, 1, "txt", {"recorded": True}),
     (9, 5, "par &fX", {"view": {"macros": {"defining": None}}}),
     (14, 5, "par &fX", {"depth": 1}),
-    (14, 5, "txt", {"depth": 1}),
-    (14, 5, "txt", {"depth": 0}),
+    (14, 5, "txt", NO_ROW | {"depth": 1}),
+    (14, 5, "txt", NO_ROW | {"depth": 0}),
     run(19, 1),
     run(20, 2),
     (22, 0, "uel", {"view": {"macros": {"id": 0}}}),
@@ -315,9 +319,201 @@ PIECES = in_runs(
     (20000, 0, "uel", {}),
 )
 
+
+def no(letters, fields):
+    """Commands that are refused for these value fields."""
+    return [(letters[:-1] + field + letters[-1], NO_VALUE) for field in fields.split()]
+
+
+def ok(letters, fields):
+    """Such as are not, and change nothing here."""
+    return [(command, {}) for command, _ in no(letters, fields)]
+
+
+def spelled(*commands, at_end):
+    """A reset, and commands one by one: each as it stands behind its escape character, and what is told of it."""
+    stream, steps = b"\x1bE", [(0, 2, "esc E", {})]
+    for command, told in commands:
+        kind = f"par {command[:2]}{command[-1]}" if len(command) > 1 else f"esc {command}"
+        steps.append((len(stream), len(command) + 1, kind, told))
+        stream += b"\x1b" + command.encode()
+    return asked(stream, *steps, (len(stream), 0, "uel", at_end))
+
+
+def settings(**fields):
+    return {"view": {"settings": fields}}
+
+
+def margins(**fields):
+    return {"view": {"margins": fields}}
+
+
+def raster(**fields):
+    return {"view": {"raster": fields}}
+
+
+def drawing(**fields):
+    return {"view": {"drawing": fields}}
+
+
+# Each command at the ends of its values, and past them: which values it names is told also where it changes nothing.
+MOTIONS = spelled(
+    *no("&uD", "0 95 97 7199 7201 -300"), ("&u96D", settings(unit=75)), ("&u7200.9D", settings(unit=1)), ("&u300D", settings(unit=24)),
+    *no("&kG", "4 -1"), *ok("&kG", "0 -0.9"), ("&k3G", settings(feed_after_return=True, return_before_feed=True)),
+    *no("&kH", "840.0001 -0.0001"), ("&k840H", settings(horizontal_motion=50400)), ("&k-0.00001H", settings(horizontal_motion=0)),
+    ("&k12H", settings(horizontal_motion=720)),
+    *no("&lC", "336.0001 -0.0001"), ("&l336C", settings(vertical_motion=50400)), ("&l-0.00001C", settings(vertical_motion=0)),
+    *no("&lE", "0 1"), *no("&lF", "0 1"),   # a line has no height
+    *no("&lD", "0 5 49 -6"), ("&l1D", settings(vertical_motion=7200)), ("&l48.9D", settings(vertical_motion=150)),
+    ("&l6D", settings(vertical_motion=1200)),
+    at_end=settings(feed_after_return=False, return_before_feed=False))
+# The page has 66 lines of 1,200, and 80 columns of 720.
+MARGINS = spelled(
+    *no("&lE", "66.0009 -0.0009 -1"), ("&l-0.0008E", margins(top=0, text_length=75600)), ("&l66.0008E", margins(top=79200, text_length=0) | {"y": 0}),
+    ("&l3E", margins(top=3600, text_length=72000) | {"y": 900}),
+    *no("&lF", "0 0.9 64 -1"), ("&l63.9F", margins(text_length=75600)), ("&l1F", margins(text_length=1200)),
+    *no("&lL", "2 -1"), *ok("&lL", "1"), ("&l0L", {"view": {"margins": {"text_length": 72000}, "settings": {"perforation_skip": False}}}), *ok("&lL", "0 -0.9"),
+    *no("&aL", "80 81 -0.0001 -1"), *ok("&aL", "0"), ("&a79.9999L", margins(left=57599) | {"x": 57599}), ("&a-0.00001L", margins(left=0)),
+    ("&a10L", margins(left=7200)),
+    *no("&aM", "9 9.0013 0 -1"), ("&a9.0014M", margins(right=7201) | {"x": 7201}), ("&a65535M", margins(right=57600)), ("&a0L", margins(left=0)),
+    *no("&aM", "-1 -0.9987 -9"), ("&a-0.9986M", margins(right=1) | {"x": 1}), *no("&aL", "0.0014"), *ok("&aL", "0.0013"), ("9", margins(right=57600)),
+    at_end=settings(perforation_skip=True) | {"x": 0})
+TURN = {"page": {"orientation": 3}, "margins": {"right": 76320, "text_length": 54000}}
+SHEETS = spelled(
+    *no("&lA", "0 4 5 7 25 28 -2"), ("&l1A", {"view": {"margins": {"right": 48600, "text_length": 68400}, "page": {"size": 1}}}),
+    ("&l27A", {"view": {"margins": {"right": 80760, "text_length": 111600}, "page": {"size": 27}}}),
+    ("&l2.9A", {"view": {"margins": {"right": 57600, "text_length": 72000}, "page": {"size": 2}}}),
+    *no("&lO", "4 -1"), *ok("&lO", "0 -0.9"), ("&l3O", {"view": TURN}),
+    ("&l0O", {"view": {"margins": {"right": 57600, "text_length": 72000}, "page": {"orientation": 0}}}),
+    *no("&lS", "3 -1"), ("&l2S", {"view": {"page": {"binding": 2, "duplex": True}}}), ("&l1S", {"view": {"page": {"binding": 1}}}),
+    ("&l-0.9S", {"view": {"page": {"duplex": False}}}),
+    *no("&aG", "3 -1"), *ok("&aG", "0 1 2 -0.9"), *ok("&lH", "0 99 -1"),
+    *no("&lX", "0 0.9 -1"), *ok("&lX", "1"), ("&l65535X", settings(copies=999)),
+    at_end=settings(copies=1))
+# The same while raster graphics is off and on. A row at the height of the source has no effect, and is not refused.
+RASTER = spelled(
+    *no("*tR", "0 74 200 600 -75"), *ok("*tR", "75"), ("*t100R", raster(resolution=100)), ("*t300.9R", raster(resolution=300)),
+    ("*t150R", raster(resolution=150)),
+    *no("*rS", "0 0.9 -1"), ("*r1S", raster(width=1)), ("*r65535S", raster(width=65535)),
+    *no("*rT", "0 0.9 -1"), ("*r1T", raster(height=1)), ("*r65535T", raster(height=65535)),
+    *no("*bM", "4 6 -1"), *ok("*bM", "0 -0.9"), ("*b5M", raster(method=5)), ("*b2M", raster(method=2)), ("*b3M", raster(method=3)), ("*b1M", raster(method=1)),
+    *no("*bY", "0 0.9 -1"), *ok("*bY", "1 65535 70000"),
+    *no("*rA", "4 -1"), ("*r-0.9A", raster(left=0, rows=0)),
+    *no("*rA", "4 -1"), *ok("*rA", "0 1 2 3"), *no("*tR", "200 0"), *ok("*tR", "75 300"), *no("*rS", "0"), *ok("*rS", "1"), *no("*rT", "0"), *ok("*rT", "1"),
+    *no("*bY", "0 -1"), ("*b70000Y", raster(rows=65535) | {"y": 75600}), *ok("*bW", "0 -1"),
+    ("*r9B", raster(left=None, rows=None)), *ok("*rB", "-1"), ("*r-1C", raster(method=0)), ("*r3A", raster(left=0, rows=0)),
+    ("*r9C", raster(left=None, rows=None)),
+    at_end=raster(height=None, resolution=75, width=None) | {"y": 900})
+FINE = asked(
+    b"@PJL SET RESOLUTION=600\n\x1b*t450R\x1b*t200R\x1b*t600R",
+    (0, 24, "pjl", {"view": {"current": VARIABLES | {"resolution": 600}, "page": POWER_ON["page"] | {"resolution": 600}}}),
+    (24, 7, "par *tR", NO_VALUE),
+    (31, 7, "par *tR", raster(resolution=200)),
+    (38, 7, "par *tR", raster(resolution=600)),
+    (45, 0, "uel", raster(resolution=75)),
+)
+# A pattern that does not exist has a value that is named, and one that is broken has data.
+PATTERNS = spelled(
+    *(each for letters in ("*cA", "*cB", "*cH", "*cV") for each in (*no(letters, "-0.0001 -1"), *ok(letters, "0 -0.00001"))),
+    *no("*cP", "6 -1"), *ok("*cP", "0 1 2 3 4 5 -0.9"), *no("*cQ", "3 6 -1"), *ok("*cQ", "0 1 2 4 5 -0.9"), *ok("*cW", "0 -1"),
+    *no("*vT", "5 -1"), *ok("*vT", "0 2 3 4"), ("*v1T", drawing(pattern_kind=1)), ("*v-0.9T", drawing(pattern_kind=0)),
+    *no("*vN", "2 -1"), ("*v1N", drawing(source_opaque=True)), ("*v-0.9N", drawing(source_opaque=False)),
+    *no("*vO", "2 -1"), ("*v1O", drawing(pattern_opaque=True)), ("*v-0.9O", drawing(pattern_opaque=False)),
+    *no("*cG", "32768 -1"), ("*c32767G", drawing(id=32767)), ("*c-0.9G", drawing(id=0)),
+    at_end={})
+# What is recorded is not refused, and what a command finds missing is no matter of its value.
+MACROS = spelled(
+    *no("&fY", "32768 -1"), ("&f32767Y", {"view": {"macros": {"id": 32767}}}), ("&f-0.9Y", {"view": {"macros": {"id": 0}}}),
+    *no("&fX", "11 -1"), *ok("&fX", "1 2 3 5 6 7 8 9 10"), ("&f4X", {"view": {"macros": {"overlay": 0}}}), ("&f5X", {"view": {"macros": {"overlay": None}}}),
+    ("&f0X", {"view": {"macros": {"defining": 0}}}), ("&f11X", {"recorded": True}), ("&l9A", {"recorded": True}), ("&z1Z", {"recorded": True}),
+    ("&f1.7X", {"view": {"macros": {"defining": None}}}),
+    *no("&fS", "2 -1"), *ok("&fS", "1"), *(("&f0S", {"view": {"cursor": {"pushed": [[0, 900]] * each}}}) for each in range(1, 21)), *ok("&fS", "0 -0.9"),
+    at_end={"view": {"cursor": {"pushed": []}}})
+# What has no row, and what HP-GL/2 skips, whether it has one or not, and whatever its value; lines of the job language have one, also those of no effect.
+SKIPPED = asked(
+    b"\x1bEa\x07\x80\x1bZ\x1b&l1Z\x1b*b3Vabc\x1b*p\x1b*{9\x1b%5B{\n\x07\x1b=\x1bZ\x1b&l9A\x1b&l2A\x1b*z1Z\x1b*b1W\xff\x1b*p\x1b%0B\x1b%5A\x1b%0B\x1bE"
+    b"\x1b%0B\x1b%-12345X@PJL FOO\n@PJLFOO\n@PJL ENTER LANGUAGE=X\n\x0c\x1b",
+    (0, 2, "esc E", {}),
+    (2, 1, "txt", NO_ROW),
+    (3, 1, "ctl 07", NO_ROW),
+    (4, 1, "txt", NO_ROW),
+    (5, 2, "esc Z", NO_ROW),
+    (7, 5, "par &lZ", NO_ROW),
+    (12, 8, "par *bV", NO_ROW),
+    (20, 3, "brk", NO_ROW),
+    (23, 4, "brk", NO_ROW),
+    (27, 4, "par %B", settings(hp_gl=True)),
+    (31, 1, "txt", IN_HPGL),
+    (32, 1, "ctl 0A", IN_HPGL),
+    (33, 1, "ctl 07", IN_HPGL),
+    (34, 2, "esc =", IN_HPGL),
+    (36, 2, "esc Z", IN_HPGL),
+    (38, 5, "par &lA", IN_HPGL),
+    (43, 5, "par &lA", IN_HPGL),
+    (48, 5, "par *zZ", IN_HPGL),
+    (53, 6, "par *bW", IN_HPGL),
+    (59, 3, "brk", IN_HPGL),
+    (62, 4, "par %B", IN_HPGL),
+    (66, 4, "par %A", settings(hp_gl=False)),
+    (70, 4, "par %B", settings(hp_gl=True)),
+    (74, 2, "esc E", settings(hp_gl=False)),
+    (76, 4, "par %B", settings(hp_gl=True)),
+    (80, 9, "uel", settings(hp_gl=False)),
+    (89, 9, "pjl", {}),
+    (98, 8, "pjl", {}),
+    (106, 22, "pjl", {}),
+    (128, 1, "for", NO_ROW),
+    (129, 1, "for", NO_ROW),
+    (130, 0, "uel", {}),
+)
+# The same in a body, where no definition begins or ends; what was recorded is refused when it runs.
+IN_BODY = asked(
+    b"\x1b&f1y0Xa\x1b&l9A\x1b%0Bb\x1b&l9A\x1b%0A\x1b&f0X\x1b&f11X\x1b&f1X\x1b&f2X",
+    (0, 5, "par &fY", {"view": {"macros": POWER_ON["macros"] | {"id": 1}}}),
+    (5, 2, "par &fX", {"view": {"macros": {"defining": 1}}}),
+    *((at, size, last, {"recorded": True}) for at, size, last in (
+        (7, 1, "txt"), (8, 5, "par &lA"), (13, 4, "par %B"), (17, 1, "txt"), (18, 5, "par &lA"), (23, 4, "par %A"), (27, 5, "par &fX"), (32, 6, "par &fX"))),
+    (38, 5, "par &fX", {"view": {"macros": {"defining": None}}}),
+    (43, 5, "par &fX", {"depth": 1}),
+    (43, 5, "txt", NO_ROW),
+    (43, 5, "par &lA", NO_VALUE),
+    (43, 5, "par %B", settings(hp_gl=True)),
+    (43, 5, "txt", IN_HPGL),
+    (43, 5, "par &lA", IN_HPGL),
+    (43, 5, "par %A", settings(hp_gl=False)),
+    (43, 5, "par &fX", {}),
+    (43, 5, "par &fX", NO_VALUE | {"depth": 0}),
+    (48, 0, "uel", {"view": {"macros": {"id": 0}}}),
+)
+# What would close the page in an overlay has no effect there, and is refused for its value alone.
+OVERLAY = asked(
+    b"\x1b&f2y0X\x0c\x1b&l2a9a0o4o0s3s0H\x1b&a0g3G\x07\x1b&f1x4X\x0c",
+    (0, 5, "par &fY", {"view": {"macros": POWER_ON["macros"] | {"id": 2}}}),
+    (5, 2, "par &fX", {"view": {"macros": {"defining": 2}}}),
+    *((at, size, last, {"recorded": True}) for at, size, last in (
+        (7, 1, "ctl 0C"), (8, 5, "par &lA"), (13, 2, "par &lA"), (15, 2, "par &lO"), (17, 2, "par &lO"), (19, 2, "par &lS"), (21, 2, "par &lS"),
+        (23, 2, "par &lH"), (25, 5, "par &aG"), (30, 2, "par &aG"), (32, 1, "ctl 07"))),
+    (33, 5, "par &fX", {"view": {"macros": {"defining": None}}}),
+    (38, 2, "par &fX", {"view": {"macros": {"overlay": 2}}}),
+    (40, 1, "ctl 0C", {"depth": 1, "view": {"macros": {"id": 0}}}),
+    (40, 1, "ctl 0C", {}),
+    (40, 1, "par &lA", {}),
+    (40, 1, "par &lA", NO_VALUE),
+    (40, 1, "par &lO", {}),
+    (40, 1, "par &lO", NO_VALUE),
+    (40, 1, "par &lS", {}),
+    (40, 1, "par &lS", NO_VALUE),
+    (40, 1, "par &lH", {}),
+    (40, 1, "par &aG", {}),
+    (40, 1, "par &aG", NO_VALUE),
+    (40, 1, "ctl 07", NO_ROW | {"delivered": 1, "depth": 0, "sheets": 1, "view": {"macros": {"id": 2}, "settings": {"sheets_of_job": 1}}}),
+    (41, 0, "uel", {"view": {"macros": {"id": 0, "overlay": None}}}),
+)
+
 REFUSED = [
     ("trace none", 1, "fault 304\n", b""),
     ("trace /", 1, "fault 304\n", b""),
 ]
 
-ROWS = [EMPTY, BOX, MARKS, BODY, BROKEN, REPLIES, CONTROLS, DRAWING, LINES, ROWS_OF_RASTER, MEDIA, VARIABLES_SET, COUNTS, *TURNED, SET, RUNS, PLOT, LANGUAGE, RECORDED, PIECES, *REFUSED]
+ROWS = [EMPTY, BOX, MARKS, BODY, BROKEN, REPLIES, CONTROLS, DRAWING, LINES, ROWS_OF_RASTER, MEDIA, VARIABLES_SET, COUNTS, *TURNED, SET, RUNS, PLOT, LANGUAGE, RECORDED, PIECES,
+        MOTIONS, MARGINS, SHEETS, RASTER, FINE, PATTERNS, MACROS, SKIPPED, IN_BODY, OVERLAY, *REFUSED]

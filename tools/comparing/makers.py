@@ -103,8 +103,8 @@ class Makers:
 
     def note_dots(self, patch, page, make):
         """Notes those of the dots that a patch turns, and by which command."""
-        first = bisect.bisect_left(self.wanted, (patch.top, 8 * patch.left))
-        last = bisect.bisect_left(self.wanted, (patch.top + patch.count(), 0))
+        first = bisect.bisect_left(self.wanted, (patch.laid.top, 8 * patch.laid.left))
+        last = bisect.bisect_left(self.wanted, (patch.laid.top + patch.laid.count(), 0))
         if first == last:
             return
         left, top, rows, old = patch.whole()

@@ -12,6 +12,8 @@ from .commands import Escape, Param, PjlLine, Uel, kind
 from .state import GREATEST_COUNT, State
 
 RECORDED = "recorded"
+# Why a command that is not recorded is refused: the first of these that holds before its step.
+IN_HPGL, NO_ROW, NO_SUCH_VALUE = "HP-GL/2", "no row", "no such value"
 
 
 class Deliver(NamedTuple):
@@ -46,6 +48,7 @@ class Engine:
         self.command = None  # that the last step took
         self.kind = None
         self.last = None
+        self.refused = None  # why the last step's command was, if it was
         self.row_counts = {}  # how often each row was taken
 
     def item(self):
@@ -66,6 +69,7 @@ class Engine:
         self.command = command
         self.kind = kind(command)
         self.last = self.kind
+        self.refused = None
         if self.state.defining is not None and not ends_or_passes_definition(command):
             self.last = RECORDED
             self.state.definition.append(command)
@@ -74,6 +78,16 @@ class Engine:
             if row is not None:
                 self.row_counts[row.name] = self.row_counts.get(row.name, 0) + 1
                 yield from row.effect(self, command) or ()
+            else:
+                self.refused = NO_ROW
+        else:
+            self.refused = IN_HPGL
+
+    def names(self, named):
+        """Whether the row names the command's value, as it says itself; if not, the command is refused."""
+        if not named:
+            self.refused = NO_SUCH_VALUE
+        return named
 
     def new_page(self):
         self.state.page = None

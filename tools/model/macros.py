@@ -34,6 +34,8 @@ def control(engine, number):
         state.permanent_macros.discard(state.macro_id)
     elif number == MAKE_PERMANENT and state.macro_id in state.macros:
         state.permanent_macros.add(state.macro_id)
+    else:
+        engine.names(number == MAKE_PERMANENT)
     return None
 
 

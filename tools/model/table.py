@@ -1,7 +1,8 @@
 """The command table: for each kind of command its effect on the engine.
 
 An effect is a function of engine and command. Where it can close a page or start a body it is a generator, which
-the engine runs step by step; else it gives None.
+the engine runs step by step; else it gives None. It asks `engine.names` whether its row names the value, before it
+does anything; a row that names all values does not ask.
 """
 
 from typing import Callable, NamedTuple
@@ -102,7 +103,7 @@ def hpgl_off(engine, _command):
 # Cursor
 
 def unit_of_measure(engine, command):
-    if number(command) in UNITS_OF_MEASURE:
+    if engine.names(number(command) in UNITS_OF_MEASURE):
         engine.state.unit = number(command)
 
 
@@ -150,36 +151,38 @@ def push_or_pop(engine, command):
         state.end_raster()
     elif number(command) == 1 and state.stack:
         state.move(*state.stack.pop())
+    else:
+        engine.names(number(command) in (0, 1))
 
 
 # Lines and margins
 
 def line_termination(engine, command):
-    if number(command) in (0, 1, 2, 3):
+    if engine.names(number(command) in (0, 1, 2, 3)):
         engine.state.line_termination = number(command)
 
 
 def column_width(engine, command):
     value = command.value()
-    if 0 <= value.tenthousandths <= GREATEST_HMI:
+    if engine.names(0 <= value.tenthousandths <= GREATEST_HMI):
         engine.state.hmi = to_position(value, HMI_UNIT)
 
 
 def row_height(engine, command):
     value = command.value()
-    if 0 <= value.tenthousandths <= GREATEST_VMI:
+    if engine.names(0 <= value.tenthousandths <= GREATEST_VMI):
         engine.state.vmi = to_position(value, VMI_UNIT)
 
 
 def lines_per_inch(engine, command):
-    if number(command) in LINES_PER_INCH:
+    if engine.names(number(command) in LINES_PER_INCH):
         engine.state.vmi = POSITIONS_PER_INCH // number(command)
 
 
 def top_margin(engine, command):
     state = engine.state
     top = to_position(command.value(), state.vmi)
-    if state.vmi > 0 and 0 <= top <= state.logical_length():
+    if engine.names(state.vmi > 0 and 0 <= top <= state.logical_length()):
         state.top_margin = top
         state.default_text_length()
         state.move(state.x, state.home_line())
@@ -188,14 +191,14 @@ def top_margin(engine, command):
 def text_length(engine, command):
     state = engine.state
     length = number(command) * state.vmi
-    if (state.vmi > 0 and number(command) >= 1
-            and state.top_margin + length <= state.logical_length()):
+    if engine.names(state.vmi > 0 and number(command) >= 1
+                    and state.top_margin + length <= state.logical_length()):
         state.text_length = length
 
 
 def perforation_skip(engine, command):
     state = engine.state
-    if number(command) not in (0, 1) or state.perforation_skip == (number(command) == 1):
+    if not engine.names(number(command) in (0, 1)) or state.perforation_skip == (number(command) == 1):
         return
     old_top = state.top_margin
     state.perforation_skip = number(command) == 1
@@ -209,7 +212,7 @@ def left_margin(engine, command):
     state = engine.state
     value = command.value()
     margin = to_position(value, state.hmi)
-    if value.tenthousandths >= 0 and margin < state.right_margin:
+    if engine.names(value.tenthousandths >= 0 and margin < state.right_margin):
         state.left_margin = margin
         keep_right_of(state, margin)
 
@@ -223,7 +226,7 @@ def right_margin(engine, command):
     state = engine.state
     one_more = Value(command.value().tenthousandths + 10000, False)
     margin = min(to_position(one_more, state.hmi), state.logical_width())
-    if margin > state.left_margin:
+    if engine.names(margin > state.left_margin):
         state.right_margin = margin
         if state.x > margin:
             state.move(margin, state.y)
@@ -232,7 +235,7 @@ def right_margin(engine, command):
 # Pages
 
 def page_size(engine, command):
-    if number(command) not in PAGE_SIZES or engine.in_overlay:
+    if not engine.names(number(command) in PAGE_SIZES) or engine.in_overlay:
         return
     yield from engine.close_if_marked()
     engine.deliver_pending_front()
@@ -241,7 +244,7 @@ def page_size(engine, command):
 
 
 def orientation(engine, command):
-    if number(command) not in (0, 1, 2, 3) or engine.in_overlay:
+    if not engine.names(number(command) in (0, 1, 2, 3)) or engine.in_overlay:
         return
     yield from engine.close_if_marked()
     engine.state.orientation = number(command)
@@ -256,7 +259,7 @@ def new_logical_page(state):
 
 
 def sides(engine, command):
-    if number(command) not in (0, 1, 2) or engine.in_overlay:
+    if not engine.names(number(command) in (0, 1, 2)) or engine.in_overlay:
         return
     state = engine.state
     yield from engine.close_if_marked()
@@ -281,7 +284,7 @@ def close_marked_page(engine):
 
 
 def side_selection(engine, command):
-    if number(command) not in (0, 1, 2) or engine.in_overlay:
+    if not engine.names(number(command) in (0, 1, 2)) or engine.in_overlay:
         return
     state = engine.state
     yield from close_marked_page(engine)
@@ -292,7 +295,7 @@ def side_selection(engine, command):
 
 
 def copies(engine, command):
-    if number(command) >= 1:
+    if engine.names(number(command) >= 1):
         engine.state.copies = min(GREATEST_COPIES, number(command))
 
 
@@ -300,23 +303,23 @@ def copies(engine, command):
 
 def raster_resolution(engine, command):
     state = engine.state
-    if number(command) in RASTER_RESOLUTIONS[state.resolution] and not state.raster_on:
+    if engine.names(number(command) in RASTER_RESOLUTIONS[state.resolution]) and not state.raster_on:
         state.raster_resolution = number(command)
 
 
 def source_width(engine, command):
-    if number(command) >= 1 and not engine.state.raster_on:
+    if engine.names(number(command) >= 1) and not engine.state.raster_on:
         engine.state.source_width = number(command)
 
 
 def source_height(engine, command):
-    if number(command) >= 1 and not engine.state.raster_on:
+    if engine.names(number(command) >= 1) and not engine.state.raster_on:
         engine.state.source_height = number(command)
 
 
 def raster_on(engine, command):
     state = engine.state
-    if number(command) in (0, 1, 2, 3) and not state.raster_on:
+    if engine.names(number(command) in (0, 1, 2, 3)) and not state.raster_on:
         marks.start_raster(state, state.x if number(command) in (1, 3) else 0)
 
 
@@ -330,13 +333,13 @@ def raster_off_and_plain(engine, _command):
 
 
 def raster_method(engine, command):
-    if number(command) in (0, 1, 2, 3, rows.ADAPTIVE):
+    if engine.names(number(command) in (0, 1, 2, 3, rows.ADAPTIVE)):
         engine.state.method = number(command)
 
 
 def skip_rows(engine, command):
     state = engine.state
-    if state.raster_on and number(command) >= 1:
+    if engine.names(number(command) >= 1) and state.raster_on:
         marks.skip_rows(state, number(command))
         state.seed = bytes(len(state.seed))
 
@@ -353,7 +356,7 @@ def raster_row(engine, command):
 def rectangle(field, unit):
     def effect(engine, command):
         value = command.value()
-        if value.tenthousandths >= 0:
+        if engine.names(value.tenthousandths >= 0):
             setattr(engine.state, field, to_position(value, unit(engine.state)))
     return effect
 
@@ -370,10 +373,12 @@ def fill_pattern(engine, command):
     elif which in (WHITE, SHADING, HATCH, USER):
         kind = {1: WHITE, 2: SHADING, 3: HATCH, 4: USER}[which]
         engine.fill((kind, state.patterns.tile(kind, state.pattern_id)))
+    else:
+        engine.names(False)
 
 
 def pattern_id(engine, command):
-    if 0 <= number(command) <= GREATEST_ID:
+    if engine.names(0 <= number(command) <= GREATEST_ID):
         engine.state.pattern_id = number(command)
 
 
@@ -395,6 +400,8 @@ def pattern_control(engine, command):
         patterns.delete(engine.state.pattern_id)
     elif which in (4, 5):
         patterns.set_permanent(engine.state.pattern_id, which == 5)
+    else:
+        engine.names(False)
 
 
 def current_pattern(engine, command):
@@ -405,22 +412,24 @@ def current_pattern(engine, command):
     elif kind in (SHADING, HATCH, USER):
         if state.patterns.tile(kind, state.pattern_id) is not None:
             state.current_pattern = (kind, state.pattern_id)
+    else:
+        engine.names(False)
 
 
 def source_transparency(engine, command):
-    if number(command) in (0, 1):
+    if engine.names(number(command) in (0, 1)):
         engine.state.source_opaque = number(command) == 1
 
 
 def pattern_transparency(engine, command):
-    if number(command) in (0, 1):
+    if engine.names(number(command) in (0, 1)):
         engine.state.pattern_opaque = number(command) == 1
 
 
 # Macros
 
 def macro_id(engine, command):
-    if 0 <= number(command) <= GREATEST_ID:
+    if engine.names(0 <= number(command) <= GREATEST_ID):
         engine.state.macro_id = number(command)
 
 

@@ -186,7 +186,7 @@ class Teller:
         delivered = sum(isinstance(output, Deliver) for output in outputs)
         reply = b"".join(output.reply for output in outputs if not isinstance(output, Deliver))
         before, self.view = self.view, view_of(state)
-        optional = {"delivered": delivered, "recorded": engine.last == RECORDED, "reply": reply.decode("latin-1"),
+        optional = {"delivered": delivered, "recorded": engine.last == RECORDED, "refused": engine.refused, "reply": reply.decode("latin-1"),
                     "view": told_fields(before, self.view)}
         return told | {key: value for key, value in optional.items() if value}
 

@@ -20,7 +20,7 @@ PUTTING_BACK = ("&lO", "&lA", "&lL")   # what puts the top margin back to half a
 
 
 def with_value(happening, key, *values):
-    return happening.how == "row" and letters(happening.placed.command) == key and happening.placed.command.value().whole() in values
+    return happening.key == key and happening.placed.command.value().whole() in values
 
 
 class Unended(NamedTuple):

@@ -22,6 +22,7 @@ from .finding import counted
 
 LASER = "a LaserJet's driver does so (Ghostscript: -sDEVICE=ljet4 -r300)"
 AS_PCL = "Print it through a driver for PCL 5 (Ghostscript: -sDEVICE=ljet4 -r300), which sends raster graphics"
+NO_SUCH_VALUE = "no such value"
 BLACK = "Have the driver send black and white, in one plane: " + LASER
 RESOLUTIONS = {resolution: ", ".join(map(str, some[:-1])) + f" or {some[-1]}" for resolution, some in table.RASTER_RESOLUTIONS.items()}
 FINEST = 600
@@ -38,7 +39,7 @@ class Reason(NamedTuple):
     loses: bool = False              # whether what was to be marked is not, or not all of it; of others a page is changed
     dots: Callable = lambda happening: happening.sent.lost()
     name_of: Callable = None         # what the happenings of a group are told apart by
-    how: str = "no row"              # which happenings may meet it: "row", "no row", "HP-GL/2", or "any"
+    how: str = "no row"              # which happenings may meet it: "row", "no row", "no such value", "HP-GL/2", or "any"
 
     def advised(self, judge, happening):
         return self.advice if isinstance(self.advice, str) else self.advice(judge, happening)
@@ -100,7 +101,14 @@ def has_no_row(happening, kind_of):
 
 
 def with_row(happening, key):
-    return happening.how == "row" and letters(happening.placed.command) == key
+    return happening.key == key
+
+
+def refused_value(key):
+    """Meets a value that the row of these letters does not name."""
+    def met(_, happening):
+        return spelled(happening) if happening.how == NO_SUCH_VALUE and letters(happening.placed.command) == key else None
+    return met
 
 
 def number(happening):
@@ -122,12 +130,6 @@ def of_letters(some, grave=lambda _: True, together=True):
 
 # Resolution, methods, planes
 
-def other_resolution(_, happening):
-    if not with_row(happening, "*tR") or number(happening) in table.RASTER_RESOLUTIONS[happening.before["resolution"]]:
-        return None
-    return spelled(happening)
-
-
 def because_of_resolution(_, happening):
     page, held, asked = happening.before["resolution"], happening.before["raster_resolution"], number(happening)
     size = f", and the picture comes out {asked / held:g} times as wide and high" if asked > 0 and asked != held else ""
@@ -139,12 +141,6 @@ def resolution_advice(_, happening):
         return f"Have the driver send {RESOLUTIONS[happening.before['resolution']]} dots per inch (Ghostscript: -r300)"
     word = f"RESOLUTION={FINEST}"
     return f"This printer was not told {FINEST}: say {defaults.OPTION} {word}, or have the driver send 300 (Ghostscript: -r300)"
-
-
-def other_method(_, happening):
-    if not with_row(happening, "*bM") or number(happening) in (0, 1, 2, 3, 5):
-        return None
-    return spelled(happening)
 
 
 def because_of_method(_, happening):
@@ -201,7 +197,7 @@ def remains(judge, happening):
 # Dots beside the page, and rectangles
 
 def loses(_, happening):
-    return "dots" if happening.sent.lost() and happening.how == "row" else None
+    return "dots" if happening.sent.lost() else None
 
 
 def because_of_loss(_, happening):
@@ -242,8 +238,7 @@ def because_of_late(_, happening):
 
 
 def fills_nothing(_, happening):
-    if not with_row(happening, "*cP") or happening.marks or happening.sent.lost() or not named_values.NAMED["*cP"].takes(
-            happening.placed.command.value(), happening.before):
+    if not with_row(happening, "*cP") or happening.marks or happening.sent.lost():
         return None
     if happening.fills and happening.before["rectangle_width"] and happening.before["rectangle_height"]:
         return None   # its dots were so before
@@ -253,10 +248,7 @@ def fills_nothing(_, happening):
 # Values and times
 
 def other_value(_, happening):
-    key = letters(happening.placed.command)
-    if not key or happening.how != "row" or named_values.names_value(key, happening.placed.command.value(), happening.before):
-        return None
-    return spelled(happening)
+    return None if (letters(happening.placed.command), number(happening)) == named_values.IDLE else spelled(happening)
 
 
 def because_of_value(_, happening):
@@ -273,9 +265,9 @@ def wrong_time(_, happening):
 
 def because_of_time(_, happening):
     """What is in the way of a command whose value is right."""
-    if happening.how != "row" or happening.changes or happening.marks or happening.closes or not letters(happening.placed.command):
+    key, before = happening.key, happening.before
+    if not key or happening.changes or happening.marks or happening.closes:
         return ""
-    key, before = letters(happening.placed.command), happening.before
     if key in ("*tR", "*rS", "*rT") and before["raster_on"] and is_other(happening):
         return "raster graphics is on, and takes this before its start alone"
     if key == "*rA" and before["raster_on"]:
@@ -284,7 +276,7 @@ def because_of_time(_, happening):
         return f"there is no such pattern under the ID {before['pattern_id']}"
     if key == "&fS" and number(happening) == 0 and len(before["stack"]) == table.STACK_PLACES:
         return f"{table.STACK_PLACES} places are pushed, and there is room for no more"
-    if key == "*bY" and not before["raster_on"] and number(happening) >= 1:
+    if key == "*bY" and not before["raster_on"]:
         return "raster graphics is off, and rows are passed over within it alone"
     if key == "&fS" and number(happening) == 1 and not before["stack"]:
         return "no place was pushed"
@@ -334,7 +326,7 @@ def because_of_cut(_, happening):
 
 def loses_its_back(judge, happening):
     """A front that a command of the same job sends out, and no end of a job or page side selection that asks for it; where pages follow."""
-    if not happening.before["duplex"] or not happening.sheets or happening.how != "row":
+    if not happening.before["duplex"] or not happening.sheets:
         return None
     if place_of(happening) in judge.following.fronts:
         return "fronts"
@@ -427,17 +419,15 @@ def control(*some):
 
 
 def unknown(_, happening):
-    if happening.how != "no row" or isinstance(happening.placed.command, (Text, Foreign, Broken, PjlLine)):
-        return None
-    return "all"
+    return None if isinstance(happening.placed.command, (Text, Foreign, Broken, PjlLine)) else "all"
 
 
 REASONS = [
     Reason("another language", lambda judge, each: judge.language if has_no_row(each, Foreign) else None,
            lambda *_: "skipped, up to the next universal exit", AS_PCL, groups.language, True, loses=True),
-    Reason("resolution", other_resolution, because_of_resolution, resolution_advice, blanks=True, how="row"),
+    Reason("resolution", refused_value("*tR"), because_of_resolution, resolution_advice, blanks=True, how=NO_SUCH_VALUE),
     Reason("planes", colour, because_of_colour, BLACK, groups.first_of_many, True, loses=True, name_of=groups.of_a_kind),
-    Reason("method", other_method, because_of_method, "Have the driver compress by one of these: " + LASER, blanks=True, how="row"),
+    Reason("method", refused_value("*bM"), because_of_method, "Have the driver compress by one of these: " + LASER, blanks=True, how=NO_SUCH_VALUE),
     Reason("dots beside the page", loses, because_of_loss, loss_advice, groups.lost, True, loses=True, how="row"),
     Reason("data that is taken", takes_data, because_of_data, "Leave it out: " + LASER, blanks=True),
     Reason("what is left of a command", remains, lambda *_: "it is left of a command whose first bytes were taken as data",
@@ -467,7 +457,7 @@ REASONS = [
     Reason("a row that is cut", is_cut, because_of_cut, "It was cut: copy or make it again", groups.plain, True, loses=True),
     Reason("broken", lambda _, each: "broken" if has_no_row(each, Broken) else None, lambda *_: "ignored",
            "A PJL line ends with a line feed and has at most 4,096 bytes, a value field at most 32", groups.broken, True),
-    Reason("value", other_value, because_of_value, "Have the driver send a value that the row names", blanks=True, how="row"),
+    Reason("value", other_value, because_of_value, "Have the driver send a value that the row names", blanks=True, how=NO_SUCH_VALUE),
     Reason("time", wrong_time, because_of_time, "Have the driver send it where it is taken, or leave it out", blanks=True, how="row"),
     Reason("a front without its back", loses_its_back, lambda *_: "the front before it goes out alone, and has no back",
            "Send this before the first page of a leaf, or not at all within the job", groups.fronts, how="row"),
@@ -500,7 +490,7 @@ REASONS = [
 ]
 BY_NAME = {reason.name: reason for reason in REASONS}
 ORDER = {reason.name: place for place, reason in enumerate(REASONS)}
-BY_HOW = {how: [reason for reason in REASONS if reason.how in (how, "any")] for how in ("row", "no row", "HP-GL/2")}
+BY_HOW = {how: [reason for reason in REASONS if reason.how in (how, "any")] for how in ("row", "no row", NO_SUCH_VALUE, "HP-GL/2")}
 # What a command without a row may meet of a kind of which streams have thousands.
 BY_KIND = {("no row", kind): [BY_NAME[name] for name in some] for kind, some in {
     Foreign: ["another language"], Text: ["what is left of a command", "text"],
@@ -513,13 +503,13 @@ def is_plain(happening):
     sent = happening.sent
     if type(happening) is Row and sent is WHOLE_ROW:
         return happening.is_changing()
-    if happening.how != "row" or happening.row not in PLAIN or not (sent is WHOLE_ROW or sent is NOTHING) and (sent.right or sent.below or sent.late or sent.again):
+    key = happening.key
+    if key not in PLAIN or not (sent is WHOLE_ROW or sent is NOTHING) and (sent.right or sent.below or sent.late or sent.again):
         return False
-    return happening.is_changing() or happening.row in PLAIN_VALUES and number(happening) in PLAIN_VALUES[happening.row]
+    return key == "*bM" or happening.is_changing()    # a method may be said again
 
 
 PLAIN = ("*bW", "*pX", "*pY", "*bM")
-PLAIN_VALUES = {"*bM": (0, 1, 2, 3, 5)}    # that change nothing where they say it again
 
 
 class Judge:
@@ -538,7 +528,7 @@ class Judge:
         """Each happening with its reason and key, or None, once all that decides them was seen: those that wait for it come later, but `in_order`, where
         what follows waits, too."""
         waiting, held, before = collections.deque(), self.following.held, None
-        for self.next in itertools.chain(self.run.together() if in_order else self.run.passing(), [None]):
+        for self.next in itertools.chain(self.run.together(keeps=in_order), [None]):
             if before is not None:
                 met = None if is_plain(before) else self.first_met(before)
                 self.following.go_on(before)

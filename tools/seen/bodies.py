@@ -41,17 +41,21 @@ class Body:
 class Step(NamedTuple):
     placed: Placed           # the command that was taken, where it stands in the stream
     stack: tuple             # the bodies that ran when it was taken, the innermost last
-    how: str                 # "row", "no row", "recorded", "HP-GL/2"
+    how: str                 # as how_of tells it
     recorded_in: Optional[int]
     before: dict             # the fields before it
     after: dict
 
 
+def how_of(line):
+    """How the command of a line went: "row", "recorded", or why it was refused: "no row", "no such value", "HP-GL/2"."""
+    return "recorded" if "recorded" in line else line.get("refused", "row")
+
+
 class Follower:
     """Follows the lines of a trace through the commands of its stream."""
 
-    def __init__(self, before, row_of):
-        self.row_of = row_of
+    def __init__(self, before):
         self.fields = before
         self.macros = {}
         self.recording = []
@@ -74,19 +78,12 @@ class Follower:
             stack[-1].taken += 1
         if line["last"] != commands.kind(placed.command):
             raise ValueError(f"step {line['step']} takes {line['last']}, and {commands.kind(placed.command)} stands at {placed.offset}")
-        how = self.how(placed.command, line, before)
+        how = how_of(line)
         self.record(placed, how, before, after)
         if how == "row":
             self.keep_patterns(placed.command, before)
         self.run_bodies(placed, line["depth"], how, before)
         return Step(placed, stack, how, before["defining"] if how == "recorded" else None, before, after)
-
-    def how(self, command, line, before):
-        if line.get("recorded"):
-            return "recorded"
-        if before["hpgl"] and not engine.passes_hpgl(command):
-            return "HP-GL/2"
-        return "row" if self.row_of(command) else "no row"
 
     def record(self, placed, how, before, after):
         if how == "recorded":
@@ -107,7 +104,7 @@ class Follower:
     def keep_patterns(self, command, before):
         """The user's patterns that there are."""
         if (carry_out := ON_PATTERNS.get(letters(command))) is not None:
-            carry_out(SimpleNamespace(state=SimpleNamespace(patterns=self.patterns, pattern_id=before["pattern_id"])), command)
+            carry_out(SimpleNamespace(state=SimpleNamespace(patterns=self.patterns, pattern_id=before["pattern_id"]), names=bool), command)
         elif resets(command):
             self.patterns.delete_temporary()
 

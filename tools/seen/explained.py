@@ -2,6 +2,7 @@
 
 import array
 import bisect
+import itertools
 import os
 import tempfile
 import threading
@@ -13,6 +14,7 @@ from model.commands import Broken, Foreign, Text, command_bytes
 from reasons.untraced import Judge
 
 from . import happenings, remarks
+from .stretches import Stretch
 
 
 class Row(NamedTuple):
@@ -44,33 +46,22 @@ def bytes_of(placed, stream):
     return stream[placed.offset:placed.offset + placed.length] if placed.count() > 1 else command_bytes(placed.command)
 
 
-def rows(run, judge=None, see=None):
-    """The rows of a run, one after another, without the exit that is added at the end. `see` is handed each happening with the reason that it met."""
-    for part in parts(run, judge, see):
-        if type(part) is list:
-            yield from map(row_of_transfer, part)
-        else:
-            yield part
-
-
 def parts(run, judge=None, see=None):
-    """The same, but of rows within raster graphics of which nothing is to be said but what they do these themselves, as many as stand together."""
+    """The rows of a run, one after another, without the exit that is added at the end; of rows within raster graphics that mark the page one behind the other
+    stretches. `see` is handed each happening with the reason that it met."""
     judge, some, key, because, met = judge or Judge(run), [], None, "", None
     for happening, each in judge.judged(in_order=True):
         if see:
             see(happening, each)
-        if each is None and type(happening) is happenings.Row:
-            if some:
-                yield row_of(run, some, because, met)
-                some = []
-            yield happening.others or [happening]
-            continue
+        plain = each is None and type(happening) is happenings.Row
         why = each[0].because(judge, happening) if each else ""
-        own = run_of(happening, why)
+        own = None if plain else run_of(happening, why)
         if some and (own is None or own != key):
             yield row_of(run, some, because, met)
             some = []
-        if own is None:
+        if plain:
+            yield happening.stretch or row_of_transfer(happening)
+        elif own is None:
             yield row_of(run, [happening], why, each)
         else:
             key, because, met = (key, because, met) if some else (own, why, each)
@@ -81,11 +72,20 @@ def parts(run, judge=None, see=None):
 
 def row_of_transfer(row):
     """The row of a row within raster graphics of which nothing is to be said but what it does."""
-    return Row(row.offset, text_of_transfer(row), remarks.remark_of_row(row), [row], None, "")
+    return Row(row.offset, f"par *b{row.field.decode()}W {digits_of(row.data)}".rstrip(), remarks.remark_of_row(row), [row], None, "")
 
 
-def text_of_transfer(row):
-    return f"par *b{row.field.decode()}W {digits_of(row.data)}".rstrip()
+def told_of_stretch(stretch, most=None):
+    """Of each command of a stretch its text, with so many bytes of its data, its place, how it is spelled, what it is, and what it does."""
+    return [(f"{word} {data[:most].hex().upper()}" if data else word, place, spelled, what, effect) for place, (spelled, what, word), data, effect
+            in zip(stretch.offsets(), map(remarks.headed, stretch.heads), stretch.data, remarks.effects_of(stretch))]
+
+
+def told(part):
+    """Of each row of a part its place, its text, and its remark."""
+    if type(part) is Row:
+        return [(part.offset, part.text, part.remark)]
+    return [(offset, text, f"at {offset}, {spelled}: {what}: {effect}") for text, offset, spelled, what, effect in told_of_stretch(part)]
 
 
 def row_of(run, some, because, met):
@@ -115,7 +115,7 @@ class Read:
     of the end is the last. Rows within raster graphics are told by `film` when they are looked at, where there is one."""
 
     def __init__(self, run, shows, film=None):
-        self.run, self.shows, self.film, self.reading = run, shows, film, rows(run) if film is None else parts(run)
+        self.run, self.shows, self.film, self.reading = run, shows, film, parts(run)
         self.starts, self.ends, self.file, self.fresh = array.array("Q"), array.array("Q", [0]), tempfile.TemporaryFile(), []
         self.is_whole = self.is_over = False
         self.behind = None                      # the thread that reads
@@ -123,25 +123,29 @@ class Read:
         self.fault, self.grown = None, threading.Condition()
 
     def go_on(self, most):
-        """Reads so many rows, or those that are left."""
-        for _ in range(most):
-            row = next(self.reading, None)
-            if type(row) is list:
-                self.starts.extend([each.offset for each in row])
-                self.ends.extend([self.ends[-1]] * len(row))
-                continue
-            text, remark = (row.text, row.remark) if row else ("uel", of_end(self.run))
-            shown = self.shows(text, remark).encode(errors="surrogateescape")
-            with self.grown:
-                self.fresh.append(shown)
-                if row:
-                    self.starts.append(row.offset)
-                self.ends.append(self.ends[-1] + len(shown))
-                if self.ends[-1] - self.written > KEPT_TOGETHER:
-                    self.write()
-            if row is None:
+        """Reads so many rows and those that come with the last of them, or those that are left."""
+        wanted = len(self.starts) + most
+        while len(self.starts) < wanted and not self.is_whole:
+            if (part := next(self.reading, None)) is None:
+                self.keep([], [self.spelled("uel", of_end(self.run))])
                 self.is_whole = True
-                return
+            elif self.film is not None and type(part) is Stretch:
+                self.keep(part.offsets(), [b""] * len(part))
+            else:
+                some = told(part)
+                self.keep([offset for offset, _, _ in some], [self.spelled(text, remark) for _, text, remark in some])
+
+    def spelled(self, text, remark):
+        return self.shows(text, remark).encode(errors="surrogateescape")
+
+    def keep(self, offsets, shown):
+        """Keeps what is shown of rows that stand there, or of the end."""
+        with self.grown:
+            self.fresh += shown
+            self.starts.extend(offsets)
+            self.ends.extend(itertools.accumulate(map(len, shown[1:]), initial=self.ends[-1] + len(shown[0])))
+            if self.ends[-1] - self.written > KEPT_TOGETHER:
+                self.write()
 
     def write(self):
         data = b"".join(self.fresh)
@@ -202,8 +206,8 @@ class Read:
     def shown(self, number):
         """What is shown of a row."""
         if self.ends[number] == self.ends[number + 1]:
-            row = self.film.transfer(self.starts[number])
-            return self.shows(text_of_transfer(row), remarks.remark_of_row(row).text())
+            happening = self.film.happening(self.starts[number])
+            return self.shows(line_of_command(happening.placed.command), remarks.remark(happening).text())
         with self.grown:
             if self.ends[number + 1] > self.written:
                 self.write()

@@ -14,10 +14,10 @@ from model import commands
 from . import program, traced
 from .bodies import Body, Follower, Placed, Step
 from .fields import Fields, Now, power_on
-from .happenings import Row
+from .happenings import of_step
 from .opened import Opened
-from .patches import Page, laid_over, rows_of
-from .placing import Placer, row_of
+from .patches import PATCH, Page, laid_over, rows_of
+from .placing import Placer
 from .sent import letters
 
 MOST_LINES, MOST_BYTES = 256, 1_000_000   # of a block
@@ -33,8 +33,7 @@ EVERYWHERE = ("step", "last", "depth", "recorded", "x", "y")    # what changes i
 # A line in which no more changes than the page, the cursor, and the row of raster graphics; at depth 0, of a command that begins no body.
 QUICK = re.compile(rb'\{"at":(\d+),"bytes":(\d+),"depth":0,"last":"((?!pjl|uel|par \*cW|par \*cQ|par &fX)[^"]+)",'
                    rb'(?:"page":\{"height":(\d+),"rows":\["[^\]]*"\],"width":\d+,"x":\d+,"y":\d+\},)?'
-                   rb'"sheets":(\d+),"step":\d+,(?:"view":\{"raster":\{"rows":(\d+)\}\},)?"x":(-?\d+),"y":(-?\d+)\}\n')
-PATCH = re.compile(rb'"page":(?:(null)|\{"height":\d+,"rows":\["([^\]]*)"\],"width":\d+,"x":(\d+),"y":(\d+)\})')
+                   rb'(?:"refused":"[^"]+",)?"sheets":(\d+),"step":\d+,(?:"view":\{"raster":\{"rows":(\d+)\}\},)?"x":(-?\d+),"y":(-?\d+)\}\n')
 OPENED = re.compile(rb'"opened":\[(\d+),(\d+)\]')
 
 
@@ -146,7 +145,7 @@ class Block:
         fields, placer = Fields(), Placer(whole)
         fields.view, fields.now = dict(self.fields_view), self.now
         placer.kept, placer.before = kept, self.before
-        follower = Walker(self.now, row_of)
+        follower = Walker(self.now)
         follower.macros, (recorded, count) = dict(self.macros), self.recording
         follower.recording = recorded[:count]
         follower.bodies = [again(body, taken) for body, taken in self.bodies]
@@ -196,7 +195,7 @@ class Film:
         self.opened = Opened(self.whole, chosen)
         self.who = self.opened.who
         fields = Fields()
-        follower = Walker(fields.go_on(power_on(chosen)), row_of)
+        follower = Walker(fields.go_on(power_on(chosen)))
         self.state_read = State(self.whole, fields, follower, Placer(self.whole))
         self.blocks, self.counts, self.count, self.is_whole, self.fault = [], array.array("Q"), 0, False, None
         self.lines_left, self.place, self.power_on = self.opened.lines(), 0, (fields.now, dict(fields.view))
@@ -391,21 +390,20 @@ class Film:
                 break
             if (began := OPENED.search(text)) is not None and page is None:
                 page = Page(int(began[1]), int(began[2]))
-            if (patch := PATCH.search(text)) is not None and patch[1] is None and page is not None:
-                page.lay_rows(int(patch[3]) // 8, int(patch[4]), rows_of(patch[2]))
+            if (patch := PATCH.search(text)) is not None and page is not None:
+                page.lay_rows(int(patch[2]) // 8, int(patch[3]), rows_of(patch[1]))
         return page
 
-    def transfer(self, place):
-        """The row within raster graphics that stands at a place of the stream, as one who explains it wants it."""
+    def happening(self, place):
+        """What the command does by itself that stands at a place of the stream, and runs no body."""
         place += self.shift
         while not self.blocks or self.blocks[-1].last <= place:
             self.has(self.count + 1)
         number = bisect.bisect_right(self.blocks, place, key=lambda block: block.first) - 1
         entry = next(entry for entry in self.entries(number)[0] if entry.line["at"] == place)
-        placed, before, told, patch = entry.step.placed, entry.step.before, entry.line.get("page"), None
-        if told:
-            patch = laid_over(self.page(entry.first - 1), told)
-        return Row(place - self.shift, placed.length, placed.command.field, placed.command.data, before, entry.now, 0, None, patch)
+        step, told = entry.step, entry.line.get("page")
+        patch = laid_over(self.page(entry.first - 1), told) if told else None
+        return of_step(entry.line, step._replace(placed=step.placed._replace(offset=place - self.shift)), 0, patch)
 
     def dot(self, count, x, y):
         """Whether a dot of the open page is black behind so many steps; None where it is on no page."""

@@ -4,36 +4,29 @@ All of it is read from the lines of the trace, one after another, and none is he
 """
 
 import functools
-import itertools
 import re
 from typing import NamedTuple, Optional
 
 from model import commands, pages
 from model.values import dot_positions
 
-from . import program, sent, traced
-from .bodies import Follower, Placed, Step
+from . import program, sent, stretches, traced
+from .bodies import Follower, Placed, Step, how_of
 from .fields import Fields, Now, changes, power_on
 from .leaves import Leaves
-from .patches import Open, Page, laid_over
-from .placing import Placer, row_of
+from .patches import Open, Page, box_of, laid_over
+from .placing import Placer
 
 LINE = rb'\{"at":(\d+),"bytes":%s,"depth":0,"last":"%s",%s"sheets":(\d+),"step":(\d+),%s"x":(-?\d+),"y":(-?\d+)\}\n'
 # A byte that is passed over, and a row within raster graphics, where nothing else is told.
-BYTES = {kind: re.compile(LINE % (b"1", word, b"", b"")) for kind, word in ((commands.Text, b"txt"), (commands.Foreign, b"for"))}
-PATCH = rb'(?:"page":\{"height":\d+,"rows":\["([^\]]*)"\],"width":\d+,"x":(\d+),"y":(\d+)\},)?'
-ROW = re.compile(LINE % (rb"(\d+)", rb"par \*bW", PATCH, rb'(?:"view":\{"raster":\{"rows":(\d+)\}\},)?'))
-# Such rows one behind the other, each of which marks the page; not too many at once. And a method between them, which changes.
-ROWS = re.compile(rb'(?:\{"at":\d+,"bytes":\d+,"depth":0,"last":"par \*bW","page":\{"height":\d+,"rows":\["[^\]]*\],"width":\d+,"x":\d+,"y":\d+\},'
-                  rb'"sheets":\d+,"step":\d+,"view":\{"raster":\{"rows":\d+\}\},"x":-?\d+,"y":-?\d+\}\n){1,100}+')
-PLACES = re.compile(rb'\{"at":(\d+),"bytes":(\d+)')
-METHOD = re.compile(LINE % (rb"\d+", rb"par \*bM", b"", rb'"view":\{"raster":\{"method":[0-3]\}\},'))
+BYTES = {kind: re.compile(LINE % (b"1", word, rb'"refused":"[^"]+",', b"")) for kind, word in ((commands.Text, b"txt"), (commands.Foreign, b"for"))}
+ROW = re.compile(LINE % (rb"(\d+)", rb"par \*bW", b"(?:%s)?" % stretches.MARKED, rb'(?:"view":\{"raster":\{"rows":(\d+)\}\},)?'))
+METHOD = re.compile(stretches.METHOD)
 OTHER_KIND = (ord("*"), ord("b"), ord("W"))
 HEAD = re.compile(rb"(?:\x1b\*b)?([^Ww]*)[Ww]")     # of a row, and its value
-SIZED = re.compile(rb"(?:\x1b\*b)?([0-9]{1,4})[Ww]")    # the same, where it is some digits
 
 
-MOST_JOINED, LEAST_SIZE = 1 << 17, 1 << 9    # bytes of what rows change, as they are spelled; and of a row that changes nothing
+RESTS = 30    # rows that are read one by one where it was tried in vain to read many
 # Kinds that do no more than set fields, where nothing else is told.
 PLAIN = {f"par {letters}" for letters in ("*bM", "*pX", "*pY", "&aC", "&aR", "&aH", "&aV", "*cA", "*cB", "*cH", "*cV", "*cG", "*vT", "*vN", "*vO", "*tR",
                                           "*rS", "*rT")}
@@ -80,24 +73,9 @@ class Mark:
         return self.box()[4]
 
 
-def box_of(left, top, rows, old):
-    """The box of what a patch changes, which begins at a byte and a line, with its rows and the whole ones that were there; and how many dots."""
-    end = 8 * (left + len(rows[0]))
-    if len(rows) == 1:
-        row = rows[0]
-        dots = int.from_bytes(old[0][left:left + len(row)], "big") ^ int.from_bytes(row, "big")
-        return end - dots.bit_length(), top, end - (dots & -dots).bit_length(), top, dots.bit_count()
-    changed = [int.from_bytes(before[left:left + len(row)], "big") ^ int.from_bytes(row, "big") for row, before in zip(rows, old)]
-    dots, lines = 0, [line for line, some in enumerate(changed, top) if some]
-    for some in changed:
-        dots |= some
-    return end - dots.bit_length(), lines[0], end - (dots & -dots).bit_length(), lines[-1], sum(some.bit_count() for some in changed)
-
-
 class Happening(NamedTuple):
     placed: Placed
-    row: Optional[str]       # of the command table, or None
-    how: str                 # "row", "no row", "recorded", "HP-GL/2"
+    how: str                 # of the command itself, as bodies.how_of tells it
     recorded_in: Optional[int]
     changes: tuple           # of name, value before, value after
     marks: tuple             # of Mark
@@ -114,7 +92,7 @@ class Happening(NamedTuple):
 
     @property
     def key(self):
-        """Character, group and end of a parameterized command that has a row; else empty."""
+        """Character, group and end of a parameterized command that its row carries out; else empty."""
         return sent.letters(self.placed.command) if self.how == "row" else ""
 
     def is_changing(self):
@@ -127,13 +105,13 @@ class Happening(NamedTuple):
 class Row:
     """A happening that is a row within raster graphics. Drivers send hundreds of thousands, so what takes time is made when it is asked for."""
 
-    __slots__ = "offset", "length", "field", "data", "before", "now", "page", "sent", "patch", "marked", "read", "others"
-    row, how, key, recorded_in, closes, sheets, replies, bodies, depth, fills = "*bW", "row", "*bW", None, 0, (), b"", 0, 0, True
+    __slots__ = "offset", "length", "field", "data", "before", "now", "page", "sent", "patch", "marked", "read", "stretch"
+    how, key, recorded_in, closes, sheets, replies, bodies, depth, fills = "row", "*bW", None, 0, (), b"", 0, 0, True
 
     def __init__(self, offset, length, field, data, before, now, page, gone, patch):
         self.offset, self.length, self.field, self.data = offset, length, field, data
         self.before, self.now, self.page, self.sent, self.patch, self.marked, self.read = before, now, page, gone, patch, None, None
-        self.others = None     # the rows that it stands for
+        self.stretch = None    # the commands that it stands for, of which it is the last
 
     @property
     def placed(self):
@@ -151,19 +129,6 @@ class Row:
             self.marked = () if self.patch is None else (Mark(self.page, [self.patch]),)
         return self.marked
 
-    def count(self):
-        """How many rows it stands for."""
-        return 1 if self.others is None else len(self.others)
-
-    def size(self):
-        """Width and height of what it marks."""
-        place, top, rows, old = self.patch.whole()
-        if len(rows) == 1:
-            dots = int.from_bytes(rows[0], "big") ^ int.from_bytes(old[0][place:place + len(rows[0])], "big")
-            return dots.bit_length() - (dots & -dots).bit_length() + 1, 1
-        left, top, right, bottom, _ = box_of(place, top, rows, old)
-        return right - left + 1, bottom - top + 1
-
     @property
     def resolution(self):
         return self.now.base["resolution"]
@@ -175,23 +140,15 @@ class Row:
         return self.patch is not None
 
 
-def joined(some):
-    """Rows that come out whole one behind the other as one: as the last that marks, or the first where none does."""
-    held = next((row for row in reversed(some) if row.patch is not None), some[0])
-    one = Row(held.offset, held.length, held.field, held.data, held.before, held.now, held.page, sent.Sent(len(some)), held.patch)
-    one.others = some
-    return one
-
-
 def of_step(line, step, page, patch=None):
     """A step by itself, without what the bodies do that it runs."""
-    row = row_of(step.placed.command)
-    return Happening(step.placed, row and row.name, step.how, step.recorded_in, changes(step.before, step.after), (Mark(page, [patch]),) if patch else (),
+    return Happening(step.placed, step.how, step.recorded_in, changes(step.before, step.after), (Mark(page, [patch]),) if patch else (),
                      0, (), b"", 0, page, line["depth"], step.after["resolution"], step.before, sent.NOTHING, True)
 
 
-def takes_data(command):
-    return isinstance(command, commands.Param) and bool(command.data) and row_of(command) is None
+def takes_data(happening):
+    command = happening.placed.command
+    return happening.how == "no row" and isinstance(command, commands.Param) and bool(command.data)
 
 
 class Marks(Open):
@@ -231,53 +188,39 @@ class Run:
         self.whole = front + stream
         self.chosen = chosen
         self.who = traced.who(chosen)
-        self.texts, self.text = texts or traced.Texts(self.whole, chosen, runs=watch is None), None
+        self.texts, self.text = texts or traced.texts(self.whole, chosen, runs=watch is None), None
         self.counts_repeats = lambda: True      # whether it counts which dots rows of no bytes repeat
         self.fields = Fields()
-        self.follower = Follower(self.fields.go_on(power_on(chosen)), row_of)
+        self.follower = Follower(self.fields.go_on(power_on(chosen)))
         self.leaves, self.marks, self.watcher = Leaves(), Marks(), sent.Watcher()
         self.placer = Placer(self.whole, len(front))
         self.front, self.end, self.steps = [], None, 0
-        self.base = None      # fields with which a row within raster graphics is carried out
+        self.rests = 0        # rows that are read one by one before it is tried again to read many
         self.row_read = None  # where the last of these and its data begin, until another command comes
 
     def __iter__(self):
         """The happenings; those of the front, and that of the exit that is added at the end, stand by themselves."""
         return self.happenings(False)
 
-    def together(self):
-        """The same, but of rows that come out whole one behind the other the first alone, and those behind it as one."""
-        return self.happenings(True)
+    def together(self, keeps):
+        """The same, but of rows that come out whole one behind the other, and methods between them, the first row alone, and those behind it as one, which may
+        keep what each is. Where it does not, nobody may watch."""
+        return self.happenings(True, keeps)
 
-    def passing(self):
-        """The same, for one who asks of those that are one for no more than the last, and that they mark. Nobody may watch."""
-        return self.happenings(True, True)
-
-    def happenings(self, joins, passes=False):
-        alone, quick, some, before, size = False, self.watch is None or self.watch_row is not None, [], False, 0
+    def happenings(self, joins, keeps=False):
+        alone, quick, before = False, self.watch is None or self.watch_row is not None, False
         while True:
-            if passes and before and (row := self.pass_all()) is not None:
+            while joins and before and (row := self.pass_rows(keeps)) is not None:
                 yield row
             text = self.next_text()
-            if quick and (found := ROW.fullmatch(text)) and (self.fields.now.base is self.base or self.takes_rows()):
+            if quick and (found := ROW.fullmatch(text)) and self.fields.now.base["raster_on"]:
                 alone, row = False, self.carry_out_row(found)
-                whole = joins and row.sent is sent.WHOLE_ROW and row.before.is_other(row.now)
-                if whole and before and passes:
-                    yield row
-                elif whole and before:
-                    some.append(row)
-                    size += LEAST_SIZE if row.patch is None else len(row.patch.spelled)
-                if some and (size > MOST_JOINED or not whole):
-                    yield joined(some)
-                    some, size = [], 0
-                if not whole or not before:
-                    yield row
-                before = whole
+                if self.watch_row:
+                    self.watch_row(self, int(found[7]), row, found[8] is not None)
+                before = row.sent is sent.WHOLE_ROW and row.before.is_other(row.now)
+                yield row
                 continue
-            before = False
-            if some:
-                yield joined(some)
-                some, size = [], 0
+            before = before and METHOD.fullmatch(text) is not None
             if self.row_read is not None:
                 self.leave_rows()
             line = traced.told(text)
@@ -291,11 +234,12 @@ class Run:
             if placed.offset < 0:
                 self.front.append(self.carry_out(line, placed))
                 continue
-            if line["last"] in PLAIN and len(line) == 8 + ("view" in line) and not line["depth"] and self.is_quiet():
-                yield self.carry_out_plain(line, placed)
+            if line["last"] in PLAIN and len(line) == 8 + ("view" in line) and not line["depth"]:
+                happening = self.carry_out_plain(line, placed)
             else:
-                yield self.pass_over(line, placed) if self.goes_together(placed.command, alone) else self.carry_out(line, placed)
-            alone = takes_data(placed.command) or (alone and isinstance(placed.command, commands.Text))
+                happening = self.pass_over(line, placed) if self.goes_together(placed.command, alone) else self.carry_out(line, placed)
+            yield happening
+            alone = takes_data(happening) or (alone and isinstance(placed.command, commands.Text))
         self.end, self.steps = self.carry_out(line, placed), line["step"]
         if next(self.texts, None) is not None:
             raise ValueError("the trace goes on behind the end of the stream")
@@ -344,94 +288,51 @@ class Run:
         before, shift, at, kind = self.follower.fields, self.placer.shift, line["at"], line["last"]
         self.follower.fields = self.fields.go_on(line)
         self.placer.before = kind, b""
-        resolution, page, known = before["resolution"], self.leaves.closed, {}
+        resolution, page, how, known = before["resolution"], self.leaves.closed, how_of(line), {}
         for place, size in [(at, line["bytes"])] if kind == "for" else pieces_of(self.whole, at, at + line["bytes"], alone):
             first = self.whole[place]
             if first not in known:
-                command = (commands.Foreign if kind == "for" else commands.Text if first >= FIRST_TEXT else commands.Control)(first)
-                known[first] = command, (row := row_of(command)) and row.name, self.follower.how(command, line, before)
-            command, name, how = known[first]
-            yield Happening(Placed(place - shift, size, command), name, how, None, (), (), 0, (), b"", 0, page, 0, resolution, before, sent.NOTHING, True)
+                known[first] = (commands.Foreign if kind == "for" else commands.Text if first >= FIRST_TEXT else commands.Control)(first)
+            yield Happening(Placed(place - shift, size, known[first]), how, None, (), (), 0, (), b"", 0, page, 0, resolution, before, sent.NOTHING, True)
 
-    def pass_all(self):
-        """Rows that come out whole behind one that does, and methods between them, as one row: as many as are seen to do so at once; None where none is."""
-        passed, count = None, 0
-        while True:
-            if (row := self.pass_rows()) is not None:
-                passed, count = row, count + row.sent.rows
-            elif METHOD.fullmatch(text := self.next_text()):
-                self.pass_method(text)
-            else:
-                self.text = text
-                break
-        if passed is not None:
-            passed.sent = sent.Sent(count)
-        return passed
-
-    def pass_rows(self):
-        """Rows that come out whole behind one that does, as one: as many as are seen to do so at once; None where none is."""
-        if self.text is not None or not (text := self.texts.stretch(ROWS)):
+    def pass_rows(self, keeps):
+        """Rows that come out whole behind one that does, and methods between them, as one: as many as are seen to do so at once; None where none is. It may
+        keep what each is."""
+        if self.rests or self.text is not None:
+            self.rests = max(0, self.rests - 1)
             return None
-        last = text.rfind(b"\n", 0, -1) + 1
-        before = self.now_behind(ROW.fullmatch(text, text.rfind(b"\n", 0, last - 1) + 1, last)) if last else self.fields.now
-        some = self.data_of(text, last)
-        count = self.watcher.whole_rows(self.fields.now, before.y, before.row_count, some, self.counts_repeats())
-        if count < len(some):
-            text = self.put_back(text, count)
-        return self.carry_out_rows(text, count) if count else None
+        if not self.fields.now.base["raster_on"] or not (text := self.texts.stretch(stretches.STANDING)):
+            return None
+        stretch = stretches.Stretch(text, self.whole, self.placer.shift, self.fields.now)
+        count = self.watcher.whole_rows(stretch, self.counts_repeats())
+        if count < stretch.count():
+            stretch, self.rests = stretch.first(count), 1 if count else RESTS
+            self.texts.back(len(text) - (len(stretch.text) if stretch else 0))
+        return self.carry_out_rows(stretch, keeps) if stretch else None
 
-    def data_of(self, text, last):
-        """The data of the rows of these lines, of which the last begins there. They stand one behind the other, and say how long they are; where one spells
-        that otherwise, each line tells it."""
-        (place, _), (at, size) = (map(int, PLACES.match(text, start).groups()) for start in (0, last))
-        some, whole = [], self.whole
-        for _ in range(text.count(b"\n")):
-            if (found := SIZED.match(whole, place)) is None:
-                break
-            begins = found.end()
-            place = begins + int(found[1])
-            some.append(whole[begins:place])
-        if place == at + size:
-            return some
-        return [whole[HEAD.match(whole, int(at)).end():int(at) + int(size)] for at, size in PLACES.findall(text)]
-
-    def pass_method(self, text):
-        """A method behind rows, by which those are read that follow."""
-        line = traced.told(text)
-        self.follower.fields, self.row_read = self.fields.go_on(line), None
-        self.placer.before = "par *bM", self.whole[line["at"]:line["at"] + line["bytes"]]
-        self.takes_rows()
-
-    def put_back(self, text, count):
-        """The first lines of some, so many; the others come again."""
-        end = next(itertools.islice(PLACES.finditer(text), count, None)).start()
-        self.texts.back(len(text) - end)
-        return text[:end]
-
-    def carry_out_rows(self, text, count):
-        """Rows within raster graphics which come out whole, of these lines, as one."""
-        last, fields = text.rfind(b"\n", 0, -1) + 1, self.fields
-        if last:
-            fields.now = self.now_behind(ROW.fullmatch(text, text.rfind(b"\n", 0, last - 1) + 1, last))
-            self.marks.page.lay_lines_later(text[:last])
-        return self.carry_out_row(ROW.fullmatch(text, last), sent.Sent(count))
-
-    def now_behind(self, found):
-        """The fields behind a row, of the line that was matched."""
-        *_, sheets, _, count, x, y = found.groups()
-        before = self.fields.now
-        return Now(before.base, int(x), int(y), int(sheets), before.row_count if count is None else int(count))
-
-    def takes_rows(self):
-        """Whether a row would be carried out, within raster graphics."""
-        base = self.fields.now.base
-        takes = base.get("defining", 0) is None and not base["hpgl"] and base["raster_on"]
-        self.base = base if takes else None
-        return takes
+    def carry_out_rows(self, stretch, keeps):
+        """Rows within raster graphics which come out whole, and methods between them, as one."""
+        fields, before = self.fields, self.fields.now
+        if keeps:
+            stretch.lay(self.marks.page)
+        elif stretch.last and self.marks.page is not None:
+            self.marks.page.lay_lines_later(stretch.text[:stretch.last])
+        method = stretch.parts[-1][0]
+        if method != before.base["method"]:
+            fields.go_on({"view": {"raster": {"method": method}}, "x": before.x, "y": before.y, "sheets": before.total})
+        row = self.carry_out_row(ROW.fullmatch(stretch.text, stretch.last), sent.Sent(stretch.count()))
+        row.before = before
+        if keeps:
+            row.stretch = stretch
+            if stretch.patches is not None:
+                stretch.patches.append(row.patch)
+            if self.watch_row:
+                self.watch.rows(self, stretch)
+        return row
 
     def carry_out_row(self, found, gone=None):
         """A row within raster graphics, of the line that was matched, and what it sends, where that is known."""
-        at, size, rows, left, top, sheets, step, count, x, y = found.groups()
+        at, size, rows, left, top, sheets, _, count, x, y = found.groups()
         place, size, patch, fields = int(at), int(size), None, self.fields
         before, field = fields.now, HEAD.match(self.whole, place)
         begins = field.end()
@@ -443,20 +344,12 @@ class Run:
         if count is not None:
             fields.is_late = True
         now = fields.now = Now(before.base, int(x), int(y), int(sheets), before.row_count if count is None else int(count))
-        row = Row(place - self.placer.shift, size, field[1], data, before, now, self.leaves.closed, gone, patch)
-        if self.watch_row:
-            self.watch_row(self, int(step), row, count is not None)
-        return row
+        return Row(place - self.placer.shift, size, field[1], data, before, now, self.leaves.closed, gone, patch)
 
     def leave_rows(self):
         """What follows rows goes on by the last of them."""
         place, begins = self.row_read
         self.follower.fields, self.placer.before, self.row_read = self.fields.now, ("par *bW", self.whole[place:begins]), None
-
-    def is_quiet(self):
-        """Whether a command is carried out by itself: in no body, definition, or HP-GL/2."""
-        base = self.fields.now.base
-        return not self.follower.bodies and base.get("defining", 0) is None and not base["hpgl"]
 
     def carry_out_plain(self, line, placed):
         """Goes on by a command that does no more than set fields."""
@@ -464,11 +357,9 @@ class Run:
         self.follower.fields = now
         if line["last"] != commands.kind(placed.command):
             raise ValueError(f"step {line['step']} takes {line['last']}, and {commands.kind(placed.command)} stands at {placed.offset}")
-        row = row_of(placed.command)
-        how = "row" if row else "no row"
         if self.watch:
-            self.watch(self, line, Step(placed, (), how, None, before, now))
-        return Happening(placed, row and row.name, how, None, changes(before, now), (), 0, (), b"", 0, self.leaves.closed, 0, now.base["resolution"], before,
+            self.watch(self, line, Step(placed, (), "row", None, before, now))
+        return Happening(placed, "row", None, changes(before, now), (), 0, (), b"", 0, self.leaves.closed, 0, now.base["resolution"], before,
                          sent.NOTHING, True)
 
     def carry_out(self, line, placed):
@@ -485,18 +376,16 @@ class Run:
             replies += line.get("reply", "")
             sheets += [(sheet.number, sheet.copies)] if sheet else []
         now = self.fields.now
-        row = row_of(placed.command)
         return Happening(
-            placed, row and row.name, first.how, first.recorded_in, changes(before, now),
+            placed, first.how, first.recorded_in, changes(before, now),
             self.marks.taken(), closes, tuple(sheets), replies.encode("latin-1"), count - 1, page, depth, now["resolution"], before, gone,
             self.has_pattern(placed.command, before))
 
     def take(self, line, placed):
         """A line: its step, whether a page closes, the sheet that goes out or None, and what is sent."""
-        before, command = self.follower.fields, (self.follower.next_of_body() or placed).command
-        quiet = before["defining"] is None and not before["hpgl"]
-        one = self.watcher.of(before, command, "page" in line) if quiet and sent.letters(command) in sent.SENDING else sent.NOTHING
         step = self.follower.go_on(line, placed, self.fields.go_on(line))
+        sends = step.how == "row" and sent.letters(step.placed.command) in sent.SENDING
+        one = self.watcher.of(step.before, step.placed.command, "page" in line) if sends else sent.NOTHING
         if self.watch:
             self.watch(self, line, step)
         self.marks.mark(line, self.leaves.closed)
@@ -529,20 +418,16 @@ def size_at(name, resolution):
 
 def cursor_dot(now):
     """The physical dot of the cursor."""
-    return cursor_dots([now])[0]
+    (across,), (down,) = dots_of(now.base, [now.x], [now.y])
+    return across, down
 
 
-def cursor_dots(some):
-    """That of each of these fields."""
-    dots, base = [], None
-    for now in some:
-        if now.base is not base:
-            base = now.base
-            top, orientation = base["top_margin"], base["orientation"]
-            offset, positions, size = frame_at(base["size"], base["resolution"], orientation)
-        dot = offset + now.x // positions, (now.y + top) // positions
-        dots.append(dot if orientation == pages.PORTRAIT else pages.to_physical(size, orientation, *dot))
-    return dots
+def dots_of(base, x, y):
+    """The physical dots of these places of the cursor: how far across and how far down."""
+    top, orientation = base["top_margin"], base["orientation"]
+    offset, positions, size = frame_at(base["size"], base["resolution"], orientation)
+    across, down = [offset + place // positions for place in x], [(place + top) // positions for place in y]
+    return (across, down) if orientation == pages.PORTRAIT else zip(*(pages.to_physical(size, orientation, *dot) for dot in zip(across, down)))
 
 
 @functools.lru_cache(maxsize=64)

@@ -7,7 +7,7 @@ import threading
 
 from . import program, traced
 
-AT_ONCE = 1 << 18          # bytes that are read
+AT_ONCE = traced.AT_ONCE   # bytes that are read
 PIPE = 1 << 20             # that the program writes before it waits
 MOST_AHEAD = 1 << 28       # bytes that are written to the file before somebody asks for them
 
@@ -30,7 +30,7 @@ class Opened:
     def write(self):
         """Writes what the program tells to the file, and waits where that is far ahead."""
         given = self.running.stdout
-        while data := os.read(given.fileno(), PIPE):
+        while data := given.read(AT_ONCE):      # as many bytes, however few the program writes at once: work is done for what is read together
             os.pwrite(self.told.fileno(), data, self.size)
             with self.grown:
                 self.size += len(data)
@@ -44,14 +44,12 @@ class Opened:
 
     def lines(self, place=0):
         """The lines from this byte on, which begins one, as they stand."""
-        rest = b""
+        return traced.Texts(self.pieces(place))
+
+    def pieces(self, place):
         while data := self.read(place):
             place += len(data)
-            lines = (rest + data).splitlines(keepends=True)
-            rest = b"" if lines[-1].endswith(b"\n") else lines.pop()
-            yield from lines
-        if rest:
-            yield rest
+            yield data
         if self.running.returncode:
             self.said.seek(0)
             raise OSError(f"press trace: {self.said.read().decode(errors='replace').strip()}")

@@ -76,6 +76,6 @@ def are_equal(some, others):
 
 def first_copies(stream):
     """The number of the first copy of each sheet that goes out, as the trace tells them."""
-    for line in traced.Texts(stream, runs=True):
+    for line in traced.texts(stream, runs=True):
         if (copies := DELIVERED.search(line)) is not None:
             yield int(SHEETS.search(line)[1]) - int(copies[1]) + 1

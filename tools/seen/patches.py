@@ -18,14 +18,13 @@ def rows_of(spelled):
     return [unhexlify(row) for row in spelled.split(BETWEEN)]
 
 
-class Patch:
-    """Rows that are laid over a page, from a byte and a line on, as a line of the trace spells them; those that they replaced are known once they are
-    laid."""
+class Laid:
+    """Rows that are laid over a page, from a byte and a line on, as a line of the trace spells them, and those that they replaced, once they are laid."""
 
-    __slots__ = "page", "left", "top", "spelled", "made", "old"
+    __slots__ = "left", "top", "spelled", "made", "old"
 
-    def __init__(self, page, left, top, spelled):
-        self.page, self.left, self.top, self.spelled, self.made, self.old = page, left, top, spelled, None, None
+    def __init__(self, left, top, spelled, old):
+        self.left, self.top, self.spelled, self.made, self.old = left, top, spelled, None, old
 
     def rows(self):
         if self.made is None:
@@ -33,17 +32,70 @@ class Patch:
         return self.made
 
     def count(self):
-        """How many rows it has."""
+        """How many rows there are."""
         return self.spelled.count(b",") + 1
-
-    def whole(self):
-        """Its byte and line, its rows, and those that they replaced."""
-        if self.old is None:
-            self.page.lay_waiting()
-        return self.left, self.top, self.rows(), self.old
 
     def lay_on(self, laid):
         self.old = replaced(laid, self.left, self.top, self.rows())
+
+
+class Patch:
+    """Such rows, with their page where that is asked for those that they replaced. A page has the rows alone, so it goes with its last patch."""
+
+    __slots__ = "page", "laid"
+
+    def __init__(self, page, left, top, spelled):
+        is_on_white, self.laid = top >= page.white_from, Laid(left, top, spelled, None)
+        self.page = None if is_on_white else page
+        if is_on_white:
+            self.laid.old = [page.white] * self.laid.count()
+
+    def whole(self):
+        """Its byte and line, its rows, and those that they replaced."""
+        laid = self.laid
+        if laid.old is None:
+            self.page.lay_waiting()
+        return laid.left, laid.top, laid.rows(), laid.old
+
+    def size(self):
+        """Width and height of what it changes."""
+        if self.page is None:
+            return size_on_white(self.laid.spelled)
+        left, _, rows, old = self.whole()
+        return size_of(left, rows, old)
+
+
+def box_of(left, top, rows, old):
+    """The box of what a patch changes, which begins at a byte and a line, with its rows and the whole ones that were there; and how many dots."""
+    end = 8 * (left + len(rows[0]))
+    if len(rows) == 1:
+        row = rows[0]
+        dots = int.from_bytes(old[0][left:left + len(row)], "big") ^ int.from_bytes(row, "big")
+        return end - dots.bit_length(), top, end - (dots & -dots).bit_length(), top, dots.bit_count()
+    changed = [int.from_bytes(before[left:left + len(row)], "big") ^ int.from_bytes(row, "big") for row, before in zip(rows, old)]
+    dots, lines = 0, [line for line, some in enumerate(changed, top) if some]
+    for some in changed:
+        dots |= some
+    return end - dots.bit_length(), lines[0], end - (dots & -dots).bit_length(), lines[-1], sum(some.bit_count() for some in changed)
+
+
+def size_on_white(spelled):
+    """How wide and high what these rows mark on a white part of a page is; most that stand together are alike."""
+    rows = spelled.split(BETWEEN)
+    if len(set(rows)) > 1:
+        rows = list(map(unhexlify, rows))
+        return size_of(0, rows, [bytes(len(rows[0]))] * len(rows))
+    dots = int(rows[0], 16)
+    return dots.bit_length() - (dots & -dots).bit_length() + 1, len(rows)
+
+
+def size_of(left, rows, old):
+    """Width and height of that box."""
+    if len(rows) == 1:
+        dots = int.from_bytes(rows[0], "big") ^ int.from_bytes(old[0][left:left + len(rows[0])], "big")
+        return dots.bit_length() - (dots & -dots).bit_length() + 1, 1
+    left, top, right, bottom, _ = box_of(left, 0, rows, old)
+    return right - left + 1, bottom - top + 1
 
 
 PATCH = re.compile(rb'"page":\{"height":\d+,"rows":\["([^\]]*)"\],"width":\d+,"x":(\d+),"y":(\d+)\}')
@@ -54,8 +106,12 @@ class Lines(NamedTuple):
     lines: bytes
 
     def lay_on(self, laid):
-        for rows, left, top in PATCH.findall(self.lines):
-            replaced(laid, int(left) // 8, int(top), rows_of(rows))
+        for spelled, left, top in PATCH.findall(self.lines):
+            left, line = int(left) // 8, int(top)
+            for each in spelled.split(BETWEEN):
+                new, row = unhexlify(each), laid[line]
+                laid[line] = row[:left] + new + row[left + len(new):]
+                line += 1
 
 
 class Page:
@@ -65,7 +121,8 @@ class Page:
     def __init__(self, width, height):
         self.width = width
         self.height = height
-        self.laid, self.waiting, self.size = [bytes(-(-width // 8))] * height, collections.deque(), 0
+        self.white, self.white_from = bytes(-(-width // 8)), 0     # a white row, and the line from which on nothing was laid
+        self.laid, self.waiting, self.size = [self.white] * height, collections.deque(), 0
 
     @property
     def rows(self):
@@ -81,16 +138,16 @@ class Page:
     def lay_later(self, left, top, spelled):
         """A patch that is laid when the rows are asked for."""
         patch = Patch(self, left, top, spelled)
-        self.waiting.append(patch)
-        self.size += len(spelled)
-        if self.size > MOST_WAITING:
-            self.lay_waiting()
+        self.keep_waiting(patch.laid, len(spelled), top + patch.laid.count())
         return patch
 
-    def lay_lines_later(self, lines):
-        """The same of all patches that lines of the trace tell, of which nobody asks what they replaced."""
-        self.waiting.append(Lines(lines))
-        self.size += len(lines)
+    def lay_lines_later(self, lines, behind=None):
+        """The same of all patches that lines of the trace tell, of which nobody asks what they replaced; behind the last begins this line."""
+        self.keep_waiting(Lines(lines), len(lines), self.height if behind is None else behind)
+
+    def keep_waiting(self, some, size, behind):
+        self.waiting.append(some)
+        self.size, self.white_from = self.size + size, max(self.white_from, behind)
         if self.size > MOST_WAITING:
             self.lay_waiting()
 
@@ -100,18 +157,20 @@ class Page:
 
     def lay_rows(self, left, top, rows):
         """The same of rows that begin at a byte and a line."""
-        return replaced(self.rows, left, top, rows)
+        old = replaced(self.rows, left, top, rows)
+        self.white_from = max(self.white_from, top + len(old))
+        return old
 
     def copy(self):
         other = Page(self.width, 0)
-        other.height, other.laid = self.height, list(self.rows)
+        other.height, other.laid, other.white_from = self.height, list(self.rows), self.white_from
         return other
 
 
 def laid_over(page, told):
     """The patch that a line tells, which lies over this page."""
     patch = Patch(page, told["x"] // 8, told["y"], BETWEEN.join(map(str.encode, told["rows"])))
-    patch.old = page.rows[patch.top:patch.top + told["height"]]
+    patch.laid.old = page.rows[told["y"]:told["y"] + told["height"]]
     return patch
 
 

@@ -2,7 +2,6 @@
 
 import re
 
-from model import table
 from model.commands import Broken, Control, Escape, Foreign, Param, PjlLine, Text, Uel
 
 from .bodies import Placed
@@ -52,20 +51,3 @@ class Placer:
         if kind[:3] != "par" or len(kind) != 7 or PARAM.match(data)[2][0] < LOWER:
             return b""
         return bytes([ESC, ord(kind[4]), ord(kind[5])])
-
-
-ROWS = {}    # those that were asked for, by what chooses them
-BY_VALUE = [(ord("c"), ord("P"))]
-
-
-def row_of(command):
-    """The row of the command table that a command has, or None; it is looked up once for each spelling."""
-    if isinstance(command, Param):
-        key = command.character, command.group, command.end, command.field if (command.group, command.end) in BY_VALUE else None
-    elif isinstance(command, PjlLine):
-        return table.row_of(command)
-    else:
-        key = type(command), command[:1]
-    if key not in ROWS:
-        ROWS[key] = table.row_of(command)
-    return ROWS[key]

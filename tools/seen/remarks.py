@@ -1,16 +1,19 @@
 """A remark on a command: where it stands, what HP calls it, what its value is, and what it does here."""
 
 import functools
+import itertools
+import operator
 import re
 from typing import NamedTuple
 
-from model import patterns, pjl
+from model import patterns, pjl, table
 from model.commands import Broken, Control, Escape, Foreign, Param, PjlLine, Text, Uel, kind
 from model.values import POSITIONS_PER_INCH
 
 from . import names
 from .fields import NAMES, SIZES
 from .happenings import OTHER_KIND, Row
+from .stretches import HEAD
 
 LINE_END = b"\r\n"
 COMMANDS = {Escape: "escape", Param: "parameter", Control: "control", Text: "text", Broken: "broken", Uel: "universal exit",
@@ -216,7 +219,7 @@ def deeds(happening, pattern_id):
         told.append("marks {} by {} dots".format(*mark.size()))
     if happening.bodies > 0:
         told.append(f"runs {plural(happening.bodies, 'recorded command')}")
-    if isinstance(happening.placed.command, Param) and happening.row == "*cW":
+    if happening.key == "*cW":
         told += definition_of(happening.placed.command, pattern_id)
     told += changes_of(happening)
     if happening.replies:
@@ -269,31 +272,51 @@ class Remark(NamedTuple):
         return f"at {self.place}{', ' + self.spelled if self.spelled else ''}: {self.what}: {self.effect}"
 
 
-ROW_NAME, ROW_KIND = names.PARAMS["*bW"].name, "par *bW"
+ROW_KIND, METHOD_KIND = "par *bW", "par *bM"
 
 
 @functools.lru_cache(maxsize=4096)
-def row_named(field):
-    """How a row with this value is spelled, and what it is."""
-    return f"ESC*b{field.decode()}W", ROW_NAME + value_without_data(*OTHER_KIND[:2], field, OTHER_KIND[2])
+def headed(head):
+    """How a row or a method that begins so is spelled, what it is, and its text without data."""
+    field, end = HEAD.fullmatch(head).groups()
+    word = f"*b{field.decode()}{end.decode().upper()}"
+    return f"ESC{word}", names.PARAMS[word[:2] + word[-1]].name + value_without_data(*OTHER_KIND[:2], field, ord(word[-1])), f"par {word}"
 
 
-def effect_of_row(row):
-    """What a row within raster graphics does of which nothing else is to be said."""
-    told, before, now = [], row.before, row.now
-    if row.patch is not None:
-        told.append("marks %d by %d dots" % row.size())
-    if before.x != now.x:
-        told.append(change("x", before.x, now.x, row.resolution))
-    if before.y != now.y:
-        told.append(f"y {before.y} to {now.y}{unit_of_positions(now.y - before.y, now.base['resolution'])}")
-    if before.row_count != now.row_count:
-        told.append(f"raster rows {before.row_count} to {now.row_count}")
+def told_of_row(size, x, y, count, resolution):
+    """What a row within raster graphics does that marks so much, or nothing; of the cursor and of the number of rows what they were and what they are."""
+    told = ["marks %d by %d dots" % size] if size else []
+    if x[0] != x[1]:
+        told.append(change("x", *x, resolution))
+    if y[0] != y[1]:
+        told.append(f"y {y[0]} to {y[1]}{unit_of_positions(y[1] - y[0], resolution)}")
+    if count[0] != count[1]:
+        told.append(f"raster rows {count[0]} to {count[1]}")
     return "; ".join(told) or "changes nothing"
 
 
+def effect_of_row(row):
+    """What such a row does of which nothing else is to be said."""
+    before, now = row.before, row.now
+    size = None if row.patch is None else row.patch.size()
+    return told_of_row(size, (before.x, now.x), (before.y, now.y), (before.row_count, now.row_count), row.resolution)
+
+
+def effects_of(stretch):
+    """The same of each command of a stretch."""
+    before, resolution = stretch.before, stretch.before.base["resolution"]
+    x, y, counts = [before.x, *stretch.x], [before.y, *stretch.y], [before.row_count, *stretch.counts]
+    if len(set(x)) == 1 and len(steps := set(map(operator.sub, y[1:], y))) == 1 and 0 not in steps:
+        white = f"y %d to %d{unit_of_positions(*steps, resolution)}; raster rows %d to %d"
+        marking = "marks %d by %d dots; " + white
+        told = [marking % (*size, *others) if size else white % tuple(others) for size, *others in zip(stretch.sizes(), y, y[1:], counts, counts[1:])]
+    else:
+        told = [told_of_row(*each, resolution) for each in zip(stretch.sizes(), *map(itertools.pairwise, (x, y, counts)))]
+    return stretch.with_methods(told, [change("method", *each, resolution) for each in stretch.changes()])
+
+
 def remark_of_row(row):
-    return Remark(str(row.offset), *row_named(row.field), effect_of_row(row))
+    return Remark(str(row.offset), *headed(row.field + b"W")[:2], effect_of_row(row))
 
 
 def remark(happening, pattern_id=0, because=""):
@@ -320,6 +343,13 @@ def kind_of(command):
     return kind(command) if isinstance(command, (Param, Escape, Control)) else COMMANDS[type(command)]
 
 
+def has_row(happening):
+    """Whether the command table has a row for a command; of one that is recorded, or skipped by HP-GL/2, no line tells it."""
+    if happening.how in ("recorded", "HP-GL/2"):
+        return table.row_of(happening.placed.command) is not None
+    return happening.how != "no row"
+
+
 class Tally:
     """Commands by kind, and how many of each had a row."""
 
@@ -327,12 +357,19 @@ class Tally:
         self.kinds = {}
 
     def add(self, happening):
-        is_row = type(happening) is Row
-        kind, count = (ROW_KIND, happening.count()) if is_row else (kind_of(happening.placed.command), happening.placed.count())
+        if type(happening) is Row:
+            rows, methods = (1, 0) if (stretch := happening.stretch) is None else (stretch.count(), len(stretch) - stretch.count())
+            self.count_kind(ROW_KIND, rows, rows)
+            if methods:
+                self.count_kind(METHOD_KIND, methods, methods)
+        else:
+            self.count_kind(kind_of(happening.placed.command), happening.placed.count(), has_row(happening))
+
+    def count_kind(self, kind, count, with_row):
         if (some := self.kinds.get(kind)) is None:
             some = self.kinds[kind] = [0, 0]
         some[0] += count
-        some[1] += count if is_row else happening.row is not None
+        some[1] += with_row
 
     def count(self):
         return sum(count for count, _ in self.kinds.values())

@@ -1,6 +1,7 @@
 """What a row transfer or a fill sends, and how much of it falls beside the page: counted from the fields before it."""
 
 import functools
+import itertools
 from typing import NamedTuple
 
 from model import marks, pages, rows
@@ -69,26 +70,32 @@ class Seed:
         if reach > self.replaced:
             self.replaced = reach
 
-    def follow_whole(self, method, some, room, wants_bytes):
-        """The next rows, up to one that may reach past so many bytes, or has none where each must have some: how many there are."""
-        reach_in, most, reach, count, is_delta = REACHES[method], self.replaced, 0, 0, method == rows.DELTA_ROW
+    def follow_whole(self, method, some, marked, room, wants_bytes):
+        """The next rows, up to one that may reach past so many bytes, has none where each that marks must have some, or is not surely white and marks nothing:
+        how many there are. Whether each marks is told in their order, or None where each does."""
+        reach_in, most, is_delta = REACHES[method], self.replaced, method == rows.DELTA_ROW
         if is_delta and not self.reach <= room >= most:
             return 0
-        for data in some:
-            if data:
-                if (reach := reach_in(data)) > room:
-                    break
-                if reach > most:
-                    most = reach
-            elif wants_bytes:
-                break
-            count += 1
+        if marked is None and (all(some) or not wants_bytes) and (reach := max(map(reach_in, set(some)), default=0)) <= room:
+            most, count = max(most, reach), len(some)
+        else:
+            most, count = self.follow_each(reach_in, some, itertools.repeat(True) if marked is None else marked, most, is_delta, room, wants_bytes)
         if is_delta:
             self.waiting += [(method, data) for data in some[:count] if data]
             self.replaced = most
         elif count:
             self.follow(method, some[count - 1])
         return count
+
+    def follow_each(self, reach_in, some, marked, most, is_delta, room, wants_bytes):
+        """The same, row by row: how far they reach, and how many there are."""
+        count = 0
+        for data, marks in zip(some, marked):
+            reach = reach_in(data) if data else 0
+            if reach > room or wants_bytes and marks and not data or not marks and (reach or is_delta and (most or self.reach)):
+                break
+            most, count = max(most, reach), count + 1
+        return most, count
 
     def fits(self, room):
         """Whether no dot is lost of as many bytes as it may reach; of a row by itself these are counted where it could be too many."""
@@ -127,7 +134,6 @@ def by_itself(method, data):
     return rows.decode(method, data, WHITE)
 
 
-@functools.lru_cache(maxsize=64)     # so does the next row of a picture that is not as fine as the page
 def reach_of(data):
     """How many bytes from the left a delta row replaces at most."""
     place = reach = 0
@@ -183,27 +189,19 @@ class Watcher:
             return self.of_rows(now, command.data, marks)
         if key == "*cP":
             return of_fill(State(now), command.value().whole())
-        if key == "*bY" and now["raster_on"] and command.value().whole() >= 1:
+        if key == "*bY" and now["raster_on"]:
             self.seed.clear()
         return NOTHING
 
     def of_rows(self, now, data, marks, counts_repeats=True):
         """What rows send, of rows of no bytes also how much they repeat, where that counts."""
-        base, y, count, seed = now.base, now.y, now.row_count, self.seed
+        base, y, count = now.base, now.y, now.row_count
         if count == 0 or not base["raster_on"]:
-            seed.clear()
+            self.seed.clear()
         strip = self.strip
         if strip is None or strip.base is not base:
             strip = self.strip = self.strip_of(now)
         method = base["method"]
-        if method == rows.DELTA_ROW and data and marks and strip.height is None:      # as most of a driver's
-            reach = reach_of(data)
-            seed.waiting.append((method, data))
-            if reach > seed.replaced:
-                seed.replaced = reach
-            if seed.reach <= strip.bytes >= seed.replaced and y < strip.end:
-                return WHOLE_ROW
-            return self.of_followed(strip, y, method, data, marks)
         if method != rows.ADAPTIVE:
             return self.of_row(strip, y, count, method, data, marks, counts_repeats)
         sent = NOTHING
@@ -233,15 +231,10 @@ class Watcher:
         """What a row sends that goes to this place; of one that marks the page, and loses none, its dots are not counted."""
         if strip.height is not None and count >= strip.height:
             return LATE_ROW
-        seed = self.seed
-        seed.follow(method, data)
-        if data and marks and seed.reach <= strip.bytes >= seed.replaced and y < strip.end:
-            return WHOLE_ROW
-        return self.of_followed(strip, y, method, data, marks, counts_repeats)
-
-    def of_followed(self, strip, y, method, data, marks, counts_repeats=True):
-        """The same, behind the seed row, where dots may be lost."""
         seed, room = self.seed, strip.bytes
+        seed.follow(method, data)
+        if data and marks and seed.reach <= room >= seed.replaced and y < strip.end:
+            return WHOLE_ROW
         again = seed.count_black() if counts_repeats and not data and method == rows.DELTA_ROW else 0
         if seed.is_white() or marks and y < strip.end and seed.fits(room):
             sent = WHOLE_ROW
@@ -249,13 +242,20 @@ class Watcher:
             sent = strip.sent(y, seed.sent())
         return sent._replace(again=again) if again else sent
 
-    def whole_rows(self, now, lowest, last, some, counts_repeats):
-        """How many of these rows of data behind a row, which mark the page one behind the other, come out whole as surely as that is seen at once. `lowest` is
-        where the last of them goes, and `last` its number."""
-        strip, method = self.strip_of(now), now.base["method"]
-        if method == rows.ADAPTIVE or lowest >= strip.end or strip.height is not None and last >= strip.height or not now.row_count:
+    def whole_rows(self, stretch, counts_repeats):
+        """How many rows of a stretch, behind a row, come out whole as surely as that is seen at once."""
+        now, count, marked = stretch.before, 0, None if stretch.all_mark() else iter(stretch.marked())
+        strip = self.strip_of(now)
+        if not now.row_count or stretch.lowest() >= strip.end or strip.height is not None and stretch.number() > strip.height:
             return 0
-        return self.seed.follow_whole(method, some, strip.bytes, counts_repeats or method != rows.DELTA_ROW)
+        for method, some in stretch.parts:
+            if method == rows.ADAPTIVE:
+                break
+            taken = self.seed.follow_whole(method, some, marked, strip.bytes, counts_repeats or method != rows.DELTA_ROW)
+            count += taken
+            if taken < len(some):
+                break
+        return count
 
 
 def rows_of(data):
@@ -294,7 +294,7 @@ class Strip:
 def of_fill(state, which):
     """Of a rectangle; a white one loses nothing."""
     across, down = (marks.ceiling(size, dot_positions(state.resolution)) for size in (state.rectangle_width, state.rectangle_height))
-    if not 0 <= which <= 5 or which == 1:
+    if which == 1:
         return NOTHING
     frame_width, frame_height = pages.frame(state.size, state.orientation)
     column, line = marks.frame_dot(state)

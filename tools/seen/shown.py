@@ -12,16 +12,19 @@ import json
 import operator
 import sys
 import zlib
+from binascii import unhexlify
 
 from reasons import streams
+from reasons.untraced import NO_SUCH_VALUE
 
 from . import happenings, png, program, remarks, sides
-from .explained import END, parts, text_of_transfer
+from .explained import END, parts, told_of_stretch
+from .patches import BETWEEN
+from .stretches import Stretch
 
 ROWS_IN_CHUNK, ENTRIES_IN_CHUNK, BYTES_IN_CHUNK = 500, 500, 1 << 20
 LEVEL = 4
 LONGEST_LINE, LONGEST_REMARK = 120, 1000
-NO_SUCH_VALUE = {"resolution", "method", "value", "PJL value"}    # reasons of a value that a row does not name
 IGNORED, SENDS, REPLIES, WRONG = 1, 2, 4, 8
 MOST_PICTURES = 500
 COLUMNS = ("step", "x", "y", "across", "down", "own", "stack", "page", "sheets")
@@ -53,22 +56,36 @@ def chunked(items, size):
         yield packed(f"[{','.join(some)}]".encode())
 
 
+def extend(columns, *more):
+    for column, numbers in zip(columns, more):
+        column.extend(numbers)
+
+
 class FilmPage:
     """A page that was open: its patches, each with its entry and its box in bytes and lines, and their rows behind one another."""
 
     def __init__(self, width, height, first):
         self.width, self.height, self.first, self.last = width, height, first, NONE
-        self.boxes = array.array("i")     # of each patch entry, left byte, top, bytes across, lines
+        self.boxes = [array.array("i") for _ in range(5)]     # of each patch entry, left byte, top, bytes across, lines
         self.data, self.chunks = bytearray(), []
         self.hashes = None
 
     def add(self, entry, left, top, rows):
         """A patch, which begins at this byte and line."""
-        self.boxes.extend((entry, left, top, len(rows[0]), len(rows)))
-        self.data += rows[0] if len(rows) == 1 else b"".join(rows)
+        extend(self.boxes, [entry], [left], [top], [len(rows[0])], [len(rows)])
+        self.keep(rows[0] if len(rows) == 1 else b"".join(rows))
+
+    def keep(self, data):
+        self.data += data
         while len(self.data) >= BYTES_IN_CHUNK:
             self.chunks.append(packed(bytes(self.data[:BYTES_IN_CHUNK])))
             del self.data[:BYTES_IN_CHUNK]
+
+    def add_rows(self, entries, stretch):
+        """Those of the rows of a stretch that mark, of which these are the entries."""
+        across = [((len(spelled) + len(BETWEEN)) // height - len(BETWEEN)) // 2 for spelled, height in zip(stretch.spelled, stretch.heights)]
+        extend(self.boxes, entries, [left // 8 for left in stretch.lefts], stretch.tops, across, stretch.heights)
+        self.keep(unhexlify(b"".join(stretch.spelled).replace(BETWEEN, b"")))
 
     def close(self, entry, page):
         """It closes in this entry; of its rows a hash is kept."""
@@ -81,7 +98,7 @@ class FilmPage:
             self.data.clear()
 
     def value(self):
-        return {"width": self.width, "height": self.height, "first": self.first, "last": self.last, "boxes": [column(self.boxes[place::5]) for place in range(5)],
+        return {"width": self.width, "height": self.height, "first": self.first, "last": self.last, "boxes": list(map(column, self.boxes)),
                 "chunks": self.chunks}
 
 
@@ -91,7 +108,6 @@ class Recorder:
     def __init__(self):
         self.columns = {name: array.array("i") for name in COLUMNS}     # of each entry a number of each
         self.flags, self.pages, self.replies, self.fields, self.part = bytearray(), [], [], [], []
-        self.waiting = []     # entries whose numbers are not in the columns yet
         self.stacks = {}
         self.film_of = {}     # the page of the film, by its number among those that closed
         self.open = None
@@ -101,7 +117,8 @@ class Recorder:
         self.follow_page(run, line, entry)
         if step and step.stack:
             stack = tuple((body.name(), body.starter.offset) for body in step.stack)
-        self.keep(line["step"], run.fields.now, step.placed.offset if stack else NONE, stack)
+        now = run.fields.now
+        self.keep(now, [line["step"]], [now.x], [now.y], step.placed.offset if stack else NONE, stack)
         self.flags.append(line["depth"] + 8 * ("delivered" in line) + 16 * ("reply" in line) + 32 * ("recorded" in line))
         if "reply" in line:
             self.replies.append([entry, remarks.readable(line["reply"].encode("latin-1"), 400)])
@@ -110,26 +127,26 @@ class Recorder:
     def row(self, run, step, row, is_counted):
         """The same of a row within raster graphics."""
         if row.patch is not None:
-            self.open.add(len(self.flags), row.patch.left, row.patch.top, row.patch.rows())
-        self.keep(step, row.now, NONE, NOTHING_RUNS)
+            self.open.add(len(self.flags), row.patch.laid.left, row.patch.laid.top, row.patch.laid.rows())
+        self.keep(row.now, [step], [row.now.x], [row.now.y], NONE, NOTHING_RUNS)
         self.flags.append(0)
         self.keep_fields(run, '{"raster":{"rows":%d}}' % row.now.row_count if is_counted else "0")
 
-    def keep(self, step, now, own, stack):
-        if stack not in self.stacks:
-            self.stacks[stack] = len(self.stacks)
-        self.waiting.append((step, now, own, self.stacks[stack], NONE if self.open is None else len(self.pages) - 1))
-        if len(self.waiting) == ENTRIES_IN_CHUNK:
-            self.keep_columns()
+    def rows(self, run, stretch):
+        """The same of a stretch."""
+        before, step, count = stretch.before, stretch.first_step(), len(stretch)
+        if stretch.spelled:
+            self.open.add_rows([len(self.flags) + place for place in stretch.places_of_marking()], stretch)
+        self.flags += bytes(count)
+        x, y = stretch.behind_each(stretch.x, before.x), stretch.behind_each(stretch.y, before.y)
+        self.keep(run.fields.now, range(step, step + count), x, y, NONE, NOTHING_RUNS)
+        self.keep_all_fields(run, stretch)
 
-    def keep_columns(self):
-        """The numbers of the entries that waited, column by column."""
-        steps, nows, own, stacks, some = zip(*self.waiting)
-        across, down = zip(*happenings.cursor_dots(nows))
-        told = (steps, [now.x for now in nows], [now.y for now in nows], across, down, own, stacks, some, [now.total for now in nows])
-        for column, numbers in zip(self.columns.values(), told):
-            column.extend(numbers)
-        self.waiting.clear()
+    def keep(self, now, steps, x, y, own, stack):
+        """The numbers of entries of these steps and places of the cursor, which have the rest in common."""
+        page, number = NONE if self.open is None else len(self.pages) - 1, self.stacks.setdefault(stack, len(self.stacks))
+        held = (array.array("i", [each]) * len(steps) for each in (own, number, page, now.total))
+        extend(self.columns.values(), steps, x, y, *happenings.dots_of(now.base, x, y), *held)
 
     def follow_page(self, run, line, entry):
         patch = line.get("page", ())
@@ -151,14 +168,28 @@ class Recorder:
         if len(self.part) > ENTRIES_IN_CHUNK:
             self.end_fields()
 
+    def keep_all_fields(self, run, stretch):
+        """The same of a stretch."""
+        rows, methods = stretch.behind_each(stretch.counts, stretch.before.row_count), stretch.methods()
+        told = stretch.with_methods(['{"raster":{"rows":%d}}' % count for count in stretch.counts],
+                                    ['{"raster":{"method":%d}}' % method for method, _ in stretch.parts[1:]])
+        place = 0
+        while place < len(told):
+            if not self.part:
+                view = run.fields.whole_view()
+                self.part.append(as_json({**view, "raster": {**view["raster"], "rows": rows[place], "method": methods[place]}}))
+            room = ENTRIES_IN_CHUNK + 1 - len(self.part)
+            self.part += told[place:place + room]
+            place += room
+            if len(self.part) > ENTRIES_IN_CHUNK:
+                self.end_fields()
+
     def end_fields(self):
         if self.part:
             self.fields.append(packed(f"[{','.join(self.part)}]".encode()))
             self.part = []
 
     def end(self):
-        if self.waiting:
-            self.keep_columns()
         self.end_fields()
         if self.open is not None:
             self.open.end()
@@ -190,8 +221,8 @@ class Listing:
     def texts(self):
         """Of each row, and of the end, as JSON: text, place, how it is spelled, what it is, its effect, flags, and why it leaves no trace, in a few words."""
         for row in parts(self.run, self.seen.judge, self.see):
-            if type(row) is list:
-                yield from self.transfers(row)
+            if type(row) is Stretch:
+                yield from self.of_stretch(row)
                 continue
             place, spelled, what, effect = row.told
             self.note(row.offset, sum(1 + each.bodies for each in row.happenings))
@@ -200,16 +231,15 @@ class Listing:
         self.note(len(self.run.stream), 1)
         yield as_text(["uel", str(len(self.run.stream)), "", END, remarks.effect_of(self.run.end), flags_of_end(self.run), ""])
 
-    def transfers(self, some):
-        """Those of rows within raster graphics, in whose texts nothing has to be escaped."""
+    def of_stretch(self, stretch):
+        """Those of a stretch, in whose texts nothing has to be escaped."""
         if self.entry is None:
             self.entry = self.first_entry()
-        self.starts.extend([row.offset + self.shift for row in some])
-        self.firsts.extend(range(self.entry, self.entry + len(some)))
-        self.entry += len(some)
-        for row in some:
-            spelled, what = remarks.row_named(row.field)
-            yield f'["{shortened(text_of_transfer(row))}","{row.offset}","{spelled}","{what}","{remarks.effect_of_row(row)}",0,""]'
+        self.starts.extend(stretch.offsets() if not self.shift else [place + self.shift for place in stretch.offsets()])
+        self.firsts.extend(range(self.entry, self.entry + len(stretch)))
+        self.entry += len(stretch)
+        return [f'["{shortened(text)}","{place}","{spelled}","{what}","{effect}",0,""]'
+                for text, place, spelled, what, effect in told_of_stretch(stretch, LONGEST_LINE)]
 
     def row_of(self, place):
         """The row in which a byte of the stream stands."""
@@ -234,7 +264,7 @@ def cause_first(effect, because):
 def cause_of(met):
     if met is None:
         return ""
-    return "no such value" if met[0].name in NO_SUCH_VALUE else met[0].name
+    return NO_SUCH_VALUE if met[0].how == NO_SUCH_VALUE or met[0].name == "PJL value" else met[0].name
 
 
 def flags_of(row):

@@ -6,7 +6,7 @@ import tempfile
 
 from . import program
 
-AT_ONCE = 1 << 16     # bytes that are read
+AT_ONCE = 1 << 18     # bytes that are read
 DECODER = json.JSONDecoder()
 
 
@@ -16,10 +16,10 @@ def who(chosen=program.PROGRAM):
 
 
 class Texts:
-    """The lines as they stand, one after another; steps that do no more than count in runs, where that is asked for."""
+    """The lines as they stand, one after another, of pieces of bytes."""
 
-    def __init__(self, stream, chosen=program.PROGRAM, runs=False):
-        self.pieces, self.held, self.place = pieces(stream, chosen, runs), b"", 0
+    def __init__(self, pieces):
+        self.pieces, self.held, self.place = pieces, b"", 0
 
     def __iter__(self):
         return self
@@ -42,7 +42,7 @@ class Texts:
 
     def stretch(self, pattern):
         """The lines that come next and that a pattern of lines matches, of those that are read; empty where it matches none."""
-        if self.place == len(self.held):
+        if self.held.find(b"\n", self.place) < 0:
             self.read()
         found = pattern.match(self.held, self.place)
         if found is None:
@@ -58,14 +58,19 @@ class Texts:
         self.pieces.close()
 
 
+def texts(stream, chosen=program.PROGRAM, runs=False):
+    """The lines of a stream; steps that do no more than count in runs, where that is asked for."""
+    return Texts(pieces(stream, chosen, runs))
+
+
 def pieces(stream, chosen, runs):
     """What the program says of a stream, as it comes."""
     chosen = program.answering(chosen)
     with tempfile.TemporaryFile() as given, tempfile.TemporaryFile() as said:
         given.write(stream)
         given.seek(0)
-        with subprocess.Popen([chosen, "trace", *["--runs"][:runs], "-"], stdin=given, stdout=subprocess.PIPE, stderr=said, bufsize=AT_ONCE) as running:
-            while piece := running.stdout.read1(AT_ONCE):
+        with subprocess.Popen([chosen, "trace", *["--runs"][:runs], "-"], stdin=given, stdout=subprocess.PIPE, stderr=said, pipesize=AT_ONCE) as running:
+            while piece := running.stdout.read(AT_ONCE):     # as many bytes, however few the program writes at once: work is done for what is read together
                 yield piece
         if running.returncode:
             said.seek(0)
@@ -79,4 +84,4 @@ def told(text):
 
 def lines(stream, chosen=program.PROGRAM):
     """What each line tells."""
-    return map(told, Texts(stream, chosen))
+    return map(told, texts(stream, chosen))

@@ -7,11 +7,11 @@ from pathlib import Path
 from typing import NamedTuple
 
 from comparing import dots
-from model import defaults, pages, table
+from model import defaults, pages
 from model.commands import Text
 from reasons import kinds
 from reasons.finding import counted
-from reasons.untraced import BY_NAME, Group, Judge
+from reasons.untraced import BY_NAME, NO_SUCH_VALUE, Group, Judge
 from seen import happenings, listing, pages_of, program
 
 from .relay import Refused
@@ -47,8 +47,8 @@ def look(stream, front, folder, most):
     kind = kinds.kind_of(stream) if stream else "empty"
     if kind and kind != "a print stream":
         raise Refused(f"it is {kind}, and no print stream")
-    run, bindings = run_of(stream, front)
-    if lacking := next(left_out(run), None):
+    run, bindings, refused = run_of(stream, front)
+    if lacking := next(left_out(run, refused), None):
         raise Refused(lacking)
     sides = pages_of.count_sides(front + stream)
     if not sides:
@@ -60,26 +60,28 @@ def look(stream, front, folder, most):
 
 
 def run_of(stream, front):
-    """A run, and the binding of each sheet as it goes out, which is known when the run was read."""
-    bindings = {}
+    """A run, the binding of each sheet as it goes out, and the commands of bodies whose value is refused; these are known when the run was read."""
+    bindings, refused = {}, []
 
-    def watch(_, line, step):
+    def watch(run, line, step):
         if line.get("delivered") and step is not None and step.before["duplex"]:
             bindings[line["sheets"] - line["delivered"] + 1] = step.before["binding"]
+        if step is not None and step.stack and step.how == NO_SUCH_VALUE:
+            refused.append(happenings.of_step(line, step, run.leaves.closed))
 
-    return happenings.Run(stream, front=front, watch=watch), bindings
+    return happenings.Run(stream, front=front, watch=watch), bindings, refused
 
 
 def bindings_of(stream):
-    run, bindings = run_of(stream, b"")
+    run, bindings, _ = run_of(stream, b"")
     run.read()
     return bindings
 
 
-def left_out(run):
+def left_out(run, refused):
     """Sentences about what the press leaves out and a printer might not, also where a macro has it."""
     judge, found = Judge(run), {}
-    for happening in run:
+    for happening in itertools.chain(run, refused):
         judge.see(happening)
         happening = as_run(happening)
         for name in LEFT_OUT:
@@ -93,10 +95,10 @@ def left_out(run):
 
 
 def as_run(happening):
-    """A command that a macro records, as if it stood by itself."""
+    """A command that a macro records, as if it stood by itself, and had no row; what its row does not name is told where it runs."""
     if happening.how != "recorded":
         return happening
-    return happening._replace(how="no row" if table.row_of(happening.placed.command) is None else "row")
+    return happening._replace(how="no row")
 
 
 def is_space(run, happening):

@@ -121,6 +121,7 @@ REFUSED = [
     Stream("planes", b"\x1bE\x1b*r3U\x1b*r0A\x1b*b1V\x80\x1b*b1W\x80\x0c", says="this press has one plane, of black"),
     Stream("planes of a macro", MACRO % (b"\x1b*r3U", BOX + b"\x1b&f2X\x0c"), says="this press has one plane, of black"),
     Stream("a method", b"\x1bE\x1b*b9M" + BOX + b"\x0c", says="the compression methods are 0, 1, 2, 3 and 5"),
+    Stream("a method of a macro", MACRO % (b"\x1b*b9M", BOX + b"\x1b&f2X\x0c"), says="the compression methods are 0, 1, 2, 3 and 5"),
     Stream("a resolution", FINE, says="has rows of 75, 100, 150 or 300, so they stay at "),
     Stream("scaling", b"\x1bE\x1b*t720H" + BOX + b"\x0c", says="rows are not scaled"),
     Stream("a direction", b"\x1bE\x1b&a90P" + BOX + b"\x0c", says="the print direction is not carried out"),

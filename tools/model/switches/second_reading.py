@@ -169,9 +169,8 @@ CURSOR = [
     switch("half-line-feed-never-closes", "A half line feed past the text length closes the page.", "table", "    yield from down_or_close(engine, engine.state.vmi // 2)\n", "    engine.state.move(engine.state.x, engine.state.y + engine.state.vmi // 2)\n    yield from ()\n"),
     switch("half-line-feed-closes-a-whole-line-before", "A half line feed closes the page where half a line is no more on it.", "table", "    if state.y + distance > limit and", "    if state.y + state.vmi > limit and"),
     switch("pop-down-alone", "A pop puts the cursor back across.", "table", "state.move(*state.stack.pop())", "state.move(state.x, state.stack.pop()[1])"),
-    switch("right-margin-of-a-negative-value-is-none", "A right margin may come of a value between -1 and 0.", "table", "    if margin > state.left_margin:\n", "    if margin > state.left_margin and command.value().tenthousandths >= 0:\n"),
-    switch("skipped-commands-are-recorded", "A command that HP-GL/2 skips is the last one of its step.", "engine", "        elif not self.state.hpgl or passes_hpgl(command):\n",
-           "        elif self.state.hpgl and not passes_hpgl(command):\n            self.last = RECORDED\n        else:\n"),
+    switch("right-margin-of-a-negative-value-is-none", "A right margin may come of a value between -1 and 0.", "table", "    if engine.names(margin > state.left_margin):\n", "    if engine.names(margin > state.left_margin and command.value().tenthousandths >= 0):\n"),
+    switch("skipped-commands-are-recorded", "A command that HP-GL/2 skips is the last one of its step.", "engine", "            self.refused = IN_HPGL\n", "            self.refused, self.last = IN_HPGL, RECORDED\n"),
 ]
 
 # Rows whose value is a whole number, and all whose value is no move; how a sentence names them; and those of them that take 0.
@@ -228,7 +227,7 @@ PAGES = [
     switch("blank-front-of-the-job-language", "The blank front of the back side has the page size that holds.", "table", BLANK,
            "        size = next(size for name, size in pages.SIZES.items() if name.upper().encode() == state.pjl.current[b\"PAPER\"])\n        state.pending_front = pages.Bitmap(size.at(state.resolution), state.orientation)\n"),
     switch("blank-front-with-an-overlay", "The blank front of the back side has no overlay.", "table", BLANK, "        yield from engine.close_page()\n"),
-    switch("copies-below-zero", "A negative number of copies has no effect.", "table", "    if number(command) >= 1:\n        engine.state.copies = min(GREATEST_COPIES, number(command))\n", "    if number(command) != 0:\n        engine.state.copies = min(GREATEST_COPIES, abs(number(command)))\n"),
+    switch("copies-below-zero", "A negative number of copies has no effect.", "table", "    if engine.names(number(command) >= 1):\n        engine.state.copies = min(GREATEST_COPIES, number(command))\n", "    if engine.names(number(command) != 0):\n        engine.state.copies = min(GREATEST_COPIES, abs(number(command)))\n"),
     switch("front-alone-in-its-own-copies", "A front alone goes out in the copies of when it goes out.", "engine", WAITS, WAITS + "            self.front_copies = state.copies\n",
            "engine", ALONE, ALONE.replace("None))", "None), getattr(self, \"front_copies\", 0))"), "engine", COPIES, COPIES_OF_THEN),
     switch("front-alone-in-one-copy", "A front alone goes out in all its copies.", "engine", ALONE, ALONE.replace("None))", "None), 1)"), "engine", COPIES, COPIES_OF_THEN),
@@ -282,12 +281,12 @@ MACROS = [
     switch("form-feed-closes-in-an-overlay-s-macro", "A form feed has no effect in the macro of an overlay.", "table", "    if engine.in_overlay:\n        return\n    if state.line", f"    if {IN_MACRO}:\n        return\n    if state.line", "macros", NOT_NESTED, NESTED),
     switch("line-feed-closes-in-an-overlay-s-macro", "A line feed closes no page in the macro of an overlay.", "table", "> limit and not engine.in_overlay:\n", f"> limit and not ({IN_MACRO}):\n", "macros", NOT_NESTED, NESTED),
     switch("eject-closes-in-an-overlay-s-macro", "An eject has no effect in the macro of an overlay.", "table", "    if engine.in_overlay:\n        return\n    yield from close_marked", f"    if {IN_MACRO}:\n        return\n    yield from close_marked", "macros", NOT_NESTED, NESTED),
-    switch("side-closes-in-an-overlay-s-macro", "The choice of the side has no effect in the macro of an overlay.", "table", "    if number(command) not in (0, 1, 2) or engine.in_overlay:\n        return\n    state = engine.state\n    yield from close_marked",
-           f"    if number(command) not in (0, 1, 2) or {IN_MACRO}:\n        return\n    state = engine.state\n    yield from close_marked", "macros", NOT_NESTED, NESTED),
-    switch("sides-in-an-overlay-s-macro", "Sides have no effect in the macro of an overlay.", "table", "    if number(command) not in (0, 1, 2) or engine.in_overlay:\n        return\n    state = engine.state\n    yield from engine.close",
-           f"    if number(command) not in (0, 1, 2) or {IN_MACRO}:\n        return\n    state = engine.state\n    yield from engine.close", "macros", NOT_NESTED, NESTED),
-    switch("page-size-in-an-overlay-s-macro", "A page size has no effect in the macro of an overlay.", "table", "not in PAGE_SIZES or engine.in_overlay:\n", f"not in PAGE_SIZES or {IN_MACRO}:\n", "macros", NOT_NESTED, NESTED),
-    switch("orientation-in-an-overlay-s-macro", "An orientation has no effect in the macro of an overlay.", "table", "not in (0, 1, 2, 3) or engine.in_overlay:\n", f"not in (0, 1, 2, 3) or {IN_MACRO}:\n", "macros", NOT_NESTED, NESTED),
+    switch("side-closes-in-an-overlay-s-macro", "The choice of the side has no effect in the macro of an overlay.", "table", "    if not engine.names(number(command) in (0, 1, 2)) or engine.in_overlay:\n        return\n    state = engine.state\n    yield from close_marked",
+           f"    if not engine.names(number(command) in (0, 1, 2)) or {IN_MACRO}:\n        return\n    state = engine.state\n    yield from close_marked", "macros", NOT_NESTED, NESTED),
+    switch("sides-in-an-overlay-s-macro", "Sides have no effect in the macro of an overlay.", "table", "    if not engine.names(number(command) in (0, 1, 2)) or engine.in_overlay:\n        return\n    state = engine.state\n    yield from engine.close",
+           f"    if not engine.names(number(command) in (0, 1, 2)) or {IN_MACRO}:\n        return\n    state = engine.state\n    yield from engine.close", "macros", NOT_NESTED, NESTED),
+    switch("page-size-in-an-overlay-s-macro", "A page size has no effect in the macro of an overlay.", "table", "in PAGE_SIZES) or engine.in_overlay:\n", f"in PAGE_SIZES) or {IN_MACRO}:\n", "macros", NOT_NESTED, NESTED),
+    switch("orientation-in-an-overlay-s-macro", "An orientation has no effect in the macro of an overlay.", "table", "in (0, 1, 2, 3)) or engine.in_overlay:\n", f"in (0, 1, 2, 3)) or {IN_MACRO}:\n", "macros", NOT_NESTED, NESTED),
 ]
 
 RUN_LINES = "    return {y: int(row[::-1], 2) << offset for y, row in enumerate(rows) if \"1\" in row}\n"
@@ -353,8 +352,8 @@ MOVING = [switch(f"{name}-with-{which}-are-{wrong}" if which != "unsigned" else 
 RECTANGLES = [("A", "width in units"), ("B", "height in units"), ("H", "width in decipoints"), ("V", "height in decipoints")]
 TILES = [("SHADING", "shading"), ("HATCH", "cross-hatch"), ("USER", "pattern of the user")]
 KNOWN = "        if state.patterns.tile(kind, state.pattern_id) is not None:\n"
-DRAWING = [switch(f"negative-{named.replace(' ', '-')}-is-positive", f"A negative {named} has no effect.", "table", "        if value.tenthousandths >= 0:\n            setattr",
-                   f"        if chr(command.end) == \"{end}\":\n            value = value._replace(tenthousandths=abs(value.tenthousandths))\n        if value.tenthousandths >= 0:\n            setattr") for end, named in RECTANGLES]
+DRAWING = [switch(f"negative-{named.replace(' ', '-')}-is-positive", f"A negative {named} has no effect.", "table", "        if engine.names(value.tenthousandths >= 0):\n            setattr",
+                   f"        if chr(command.end) == \"{end}\":\n            value = value._replace(tenthousandths=abs(value.tenthousandths))\n        if engine.names(value.tenthousandths >= 0):\n            setattr") for end, named in RECTANGLES]
 DRAWING += [switch(f"missing-{named.replace(' ', '-')}-becomes-current", f"A {named} that there is not leaves the current pattern.", "table", KNOWN, KNOWN.replace("if ", f"if kind == {kind} or "), "marks", "        assert kind == USER\n", "") for kind, named in TILES]
 DRAWING += [switch(f"missing-{named.replace(' ', '-')}-is-black", f"A fill in a {named} that there is not has no effect.", "table", USER_FILL, USER_FILL.replace("pattern_id)", f"pattern_id) or ([[True]] if kind == {kind} else None)")) for kind, named in TILES]
 DRAWING += [

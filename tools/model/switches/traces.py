@@ -57,7 +57,151 @@ SWAPPED = [
 BOX = "    return across[0] // 8 * 8, down[0], min(page.width(), across[1] // 8 * 8 + 8), down[1] + 1\n"
 FIELDS_OF_A_STEP = '"sheets": state.total, "step": engine.taken'
 
-SWITCHES = [switch(f"trace-{name}", f"The view tells the {name.replace('-', ' ')} of the state.", T, old, new) for name, old, new in SWAPPED] + [
+# What a row asks of its value, with the text behind it where others ask the same, and what is told as if it asked that in its place.
+OF_VALUES = [
+    ("unit", "number(command) in UNITS_OF_MEASURE", "", ["True", "number(command) > 95", "7200 % max(1, number(command)) == 0", "number(command) in UNITS_OF_MEASURE[1:]",
+     "number(command) in UNITS_OF_MEASURE[:-1]", "number(command) * 10000 == command.value().tenthousandths and number(command) in UNITS_OF_MEASURE"]),
+    ("push", "number(command) in (0, 1)", "\n\n\n# Lines", ["True", "number(command) <= 1", "number(command) >= 0", "number(command) == 1", "number(command) == 0", "len(state.stack) > 0"]),
+    ("line-termination", "number(command) in (0, 1, 2, 3)", ":\n        engine.state.line", ["True", "number(command) <= 3", "number(command) >= 0", "number(command) > 0", "number(command) < 3",
+     "command.value().tenthousandths >= 0 and number(command) <= 3"]),
+    ("hmi", "0 <= value.tenthousandths <= GREATEST_HMI", "", ["True", "value.tenthousandths <= GREATEST_HMI", "0 <= value.tenthousandths", "0 < value.tenthousandths <= GREATEST_HMI",
+     "0 <= value.tenthousandths < GREATEST_HMI", "0 <= number(command) and value.tenthousandths <= GREATEST_HMI", "0 <= value.tenthousandths and number(command) <= 840"]),
+    ("vmi", "0 <= value.tenthousandths <= GREATEST_VMI", "", ["True", "value.tenthousandths <= GREATEST_VMI", "0 <= value.tenthousandths", "0 < value.tenthousandths <= GREATEST_VMI",
+     "0 <= value.tenthousandths < GREATEST_VMI", "0 <= number(command) and value.tenthousandths <= GREATEST_VMI", "0 <= value.tenthousandths and number(command) <= 336"]),
+    ("lines", "number(command) in LINES_PER_INCH", "", ["True", "number(command) >= 1", "number(command) <= 48", "number(command) in LINES_PER_INCH[1:]", "number(command) in LINES_PER_INCH[:-1]"]),
+    ("top", "state.vmi > 0 and 0 <= top <= state.logical_length()", "", ["True", "0 <= top <= state.logical_length()", "state.vmi > 0 and top <= state.logical_length()", "state.vmi > 0 and 0 <= top",
+     "state.vmi > 0 and 0 < top <= state.logical_length()", "state.vmi > 0 and 0 <= top < state.logical_length()", "state.vmi > 0 and 0 <= command.value().tenthousandths and top <= state.logical_length()",
+     "state.vmi > 0 and 0 <= top and command.value().tenthousandths <= state.logical_length() // state.vmi * 10000"]),
+    ("text-length", "state.vmi > 0 and number(command) >= 1\n                    and state.top_margin + length <= state.logical_length()", "",
+     ["True", "number(command) >= 1 and state.top_margin + length <= state.logical_length()", "state.vmi > 0 and state.top_margin + length <= state.logical_length()", "state.vmi > 0 and number(command) >= 1",
+      "state.vmi > 0 and number(command) >= 1 and state.top_margin + length < state.logical_length()", "state.vmi > 0 and number(command) > 1 and state.top_margin + length <= state.logical_length()"]),
+    ("skip", "number(command) in (0, 1)", " or state.perf", ["True", "number(command) <= 1", "number(command) >= 0", "number(command) in (0, 1) and state.perforation_skip != (number(command) == 1)",
+     "number(command) == 1", "number(command) == 0"]),
+    ("left-margin", "value.tenthousandths >= 0 and margin < state.right_margin", "", ["True", "margin < state.right_margin", "value.tenthousandths >= 0", "value.tenthousandths > 0 and margin < state.right_margin",
+     "value.tenthousandths >= 0 and margin <= state.right_margin", "value.tenthousandths >= 0 and margin + 1 < state.right_margin", "margin >= 0 and margin < state.right_margin",
+     "value.tenthousandths >= 0 and margin < state.logical_width()"]),
+    ("right-margin", "margin > state.left_margin", "", ["True", "margin >= state.left_margin", "margin > state.left_margin + 1", "margin > 0", "margin > state.left_margin and command.value().tenthousandths >= 0",
+     "margin > state.left_margin and to_position(one_more, state.hmi) <= state.logical_width()"]),
+    ("page-size", "number(command) in PAGE_SIZES", "", ["True", "number(command) in range(1, 28)", "number(command) in (1, 2, 3, 6, 26)", "number(command) in (2, 3, 6, 26, 27)",
+     "number(command) * 10000 == command.value().tenthousandths and number(command) in PAGE_SIZES", "number(command) in PAGE_SIZES and not engine.in_overlay"]),
+    ("orientation", "number(command) in (0, 1, 2, 3)", " or engine", ["True", "number(command) <= 3", "number(command) >= 0", "number(command) > 0", "number(command) in (0, 1, 2)",
+     "number(command) in (0, 1, 2, 3) and not engine.in_overlay"]),
+    ("sides", "number(command) in (0, 1, 2)", " or engine.in_overlay:\n        return\n    state = engine.state\n    yield from engine", ["True", "number(command) <= 2", "number(command) >= 0",
+     "number(command) in (1, 2)", "number(command) in (0, 1)", "number(command) in (0, 1, 2) and not engine.in_overlay"]),
+    ("side", "number(command) in (0, 1, 2)", " or engine.in_overlay:\n        return\n    state = engine.state\n    yield from close", ["True", "number(command) <= 2", "number(command) >= 0",
+     "number(command) in (1, 2)", "number(command) in (0, 1)", "number(command) in (0, 1, 2) and not engine.in_overlay", "number(command) in (0, 1, 2) and (engine.state.marked or engine.in_overlay)"]),
+    ("copies", "number(command) >= 1", ":\n        engine.state.copies", ["True", "number(command) >= 0", "number(command) > 1", "number(command) != 0", "1 <= number(command) <= GREATEST_COPIES",
+     "command.value().tenthousandths > 0"]),
+    ("resolution", "number(command) in RASTER_RESOLUTIONS[state.resolution]", "", ["True", "number(command) in RASTER_RESOLUTIONS[300]", "number(command) in RASTER_RESOLUTIONS[600]",
+     "number(command) in RASTER_RESOLUTIONS[state.resolution] and not state.raster_on", "number(command) in RASTER_RESOLUTIONS[state.resolution] or state.raster_on",
+     "number(command) in RASTER_RESOLUTIONS[state.resolution][1:]", "number(command) in RASTER_RESOLUTIONS[state.resolution][:-1]"]),
+    *((f"source-{side}", "number(command) >= 1", f" and not engine.state.raster_on:\n        engine.state.source_{side}",
+       ["True", "number(command) >= 0", "number(command) > 1", "number(command) != 0", "number(command) in range(1, 65535)", "command.value().tenthousandths > 0",
+        "number(command) >= 1 and not engine.state.raster_on", "number(command) >= 1 or engine.state.raster_on"]) for side in ("width", "height")),
+    ("start", "number(command) in (0, 1, 2, 3)", " and not state", ["True", "number(command) <= 3", "number(command) >= 0", "number(command) > 0", "number(command) < 3",
+     "number(command) in (0, 1, 2, 3) and not state.raster_on", "number(command) in (0, 1, 2, 3) or state.raster_on"]),
+    ("method", "number(command) in (0, 1, 2, 3, rows.ADAPTIVE)", "", ["True", "number(command) in (0, 1, 2, 3)", "number(command) in range(6)", "number(command) <= 3 or number(command) == 5",
+     "number(command) in (0, 1, 2, 3) or number(command) > 4", "number(command) in (1, 2, 3, 5)", "number(command) in (0, 1, 2, 5)"]),
+    ("vertical-skip", "number(command) >= 1", " and state", ["True", "number(command) >= 0", "number(command) > 1", "number(command) != 0", "number(command) in range(1, 65535)",
+     "number(command) >= 1 and state.raster_on", "number(command) >= 1 or state.raster_on", "number(command) >= 1 or not state.raster_on", "command.value().tenthousandths > 0"]),
+    ("rectangle", "value.tenthousandths >= 0", ":\n            set", ["True", "value.tenthousandths > 0", "value.whole() >= 0",
+     *(f'value.tenthousandths >= 0 or chr(command.end) == "{end}"' for end in "ABHV"), *(f'value.tenthousandths >= (chr(command.end) == "{end}")' for end in "ABHV")]),
+    ("pattern-id", "0 <= number(command) <= GREATEST_ID", ":\n        engine.state.pattern", ["True", "number(command) <= GREATEST_ID", "0 <= number(command)", "0 < number(command) <= GREATEST_ID",
+     "0 <= number(command) < GREATEST_ID", "command.value().tenthousandths >= 0 and number(command) <= GREATEST_ID"]),
+    ("macro-id", "0 <= number(command) <= GREATEST_ID", ":\n        engine.state.macro", ["True", "number(command) <= GREATEST_ID", "0 <= number(command)", "0 < number(command) <= GREATEST_ID",
+     "0 <= number(command) < GREATEST_ID", "command.value().tenthousandths >= 0 and number(command) <= GREATEST_ID"]),
+    ("source-opaque", "number(command) in (0, 1)", ":\n        engine.state.source", ["True", "number(command) <= 1", "number(command) >= 0", "number(command) == 1", "number(command) == 0"]),
+    ("pattern-opaque", "number(command) in (0, 1)", ":\n        engine.state.pattern", ["True", "number(command) <= 1", "number(command) >= 0", "number(command) == 1", "number(command) == 0"]),
+]
+# What is told in the place of a refusal for a value that no branch takes, with the text before it.
+OF_BRANCHES = [
+    ("fill", "state.pattern_id)))\n    else:\n        engine.names(", "which {}", ["< 6", ">= 0"]),
+    ("pattern-control", "which == 5)\n    else:\n        engine.names(", "which {}", ["== 3", "< 6", ">= 0"]),
+    ("current-pattern", "(kind, state.pattern_id)\n    else:\n        engine.names(", "kind {}", ["< 5", ">= 0"]),
+]
+# Where a command that is named finds nothing to do, it is not refused: what is told as if it were.
+FINDS = [
+    ("missing-fill", "    elif which in (WHITE, SHADING, HATCH, USER):\n", "    elif engine.names(which in (WHITE, SHADING, HATCH, USER) and state.patterns.tile(which, state.pattern_id) is not None):\n"),
+    ("current-fill", "    if which == 5:\n", "    if which == 5 and engine.names(False):\n        pass\n    elif which == 5:\n"),
+    ("black-fill", "def fill_black(engine, _command):\n", "def fill_black(engine, _command):\n    engine.names(False)\n"),
+    ("missing-pattern", "        if state.patterns.tile(kind, state.pattern_id) is not None:\n", "        if engine.names(state.patterns.tile(kind, state.pattern_id) is not None):\n"),
+    ("black-pattern", "        state.current_pattern = (kind, 0)\n", "        engine.names(kind == WHITE)\n        state.current_pattern = (kind, 0)\n"),
+    ("broken-pattern", "        pass\n", "        engine.names(False)\n"),
+    ("patterns-0", "    if which == 0:\n        patterns", "    if which == 0:\n        engine.names(False)\n        patterns"),
+    ("patterns-1", "    elif which == 1:\n", "    elif which == 1:\n        engine.names(False)\n"),
+    ("patterns-2", "    elif which == 2:\n", "    elif which == 2:\n        engine.names(False)\n"),
+    ("patterns-4", "    elif which in (4, 5):\n", "    elif which in (4, 5):\n        engine.names(which == 5)\n"),
+    ("patterns-5", "    elif which in (4, 5):\n", "    elif which in (4, 5):\n        engine.names(which == 4)\n"),
+    ("paper-source", "def eject(engine, _command):\n", "def eject(engine, command):\n    engine.names(number(command) >= 0)\n"),
+    ("paper-source-in-overlay", "def eject(engine, _command):\n", "def eject(engine, _command):\n    engine.names(not engine.in_overlay)\n"),
+    ("form-feed-in-overlay", "def form_feed(engine, _command):\n", "def form_feed(engine, _command):\n    engine.names(not engine.in_overlay)\n"),
+    ("hp-gl-on", "def hpgl_on(engine, _command):\n", "def hpgl_on(engine, command):\n    engine.names(number(command) < 2)\n"),
+    ("hp-gl-off", "def hpgl_off(engine, _command):\n", "def hpgl_off(engine, command):\n    engine.names(number(command) < 2)\n"),
+    ("raster-off", "def raster_off(engine, _command):\n", "def raster_off(engine, command):\n    engine.names(number(command) == 0)\n"),
+    ("raster-off-and-plain", "def raster_off_and_plain(engine, _command):\n", "def raster_off_and_plain(engine, command):\n    engine.names(number(command) == 0)\n"),
+    ("row", "def raster_row(engine, command):\n", "def raster_row(engine, command):\n    engine.names(number(command) >= 0)\n"),
+    ("row-past-the-source", "def raster_row(engine, command):\n", "def raster_row(engine, command):\n    engine.names(engine.state.source_height is None or engine.state.row_count < engine.state.source_height)\n"),
+    ("definition-of-a-pattern", "def define_pattern(engine, command):\n", "def define_pattern(engine, command):\n    engine.names(number(command) >= 0)\n"),
+    ("line-of-no-effect", "    if read is None:\n", "    if not engine.names(read is not None):\n"),
+    ("line-without-change", "    if change is None:\n", "    if not engine.names(change is not None):\n"),
+]
+NOT_FOUND = [
+    ("execute", "def execute(engine):\n    body = body_to_start(engine)\n    if body is not None:\n", "def execute(engine):\n    body = body_to_start(engine)\n    if engine.names(body is not None):\n"),
+    ("call", "    state = engine.state\n    body = body_to_start(engine)\n    if body is not None:\n", "    state = engine.state\n    body = body_to_start(engine)\n    if engine.names(body is not None):\n"),
+    ("begin-in-a-body", "    if engine.depth == 0:\n", "    if engine.names(engine.depth == 0):\n"),
+    ("end-of-none", "        end(state)\n", "        engine.names(state.defining is not None)\n        end(state)\n"),
+    ("overlay-off", "        state.overlay = None\n", "        engine.names(state.overlay is not None)\n        state.overlay = None\n"),
+    *((f"macro-{name.lower().replace('_', '-')}", f"    elif number == {name}:\n", f"    elif number == {name}:\n        engine.names(False)\n")
+      for name in ("OVERLAY_ON", "DELETE_ALL", "DELETE_TEMPORARY", "DELETE", "MAKE_TEMPORARY")),
+    ("macro-make-permanent", "engine.names(number == MAKE_PERMANENT)", "engine.names(False)"),
+    ("macro-control-above-10", "engine.names(number == MAKE_PERMANENT)", "engine.names(number >= MAKE_PERMANENT)"),
+    ("macro-control-below-0", "engine.names(number == MAKE_PERMANENT)", "engine.names(number <= MAKE_PERMANENT)"),
+]
+REASON = "            else:\n                self.refused = NO_ROW\n        else:\n            self.refused = IN_HPGL\n"
+ROWLESS = {"text": "txt", "foreign-byte": "for", "broken": "brk", "control": "ctl", "escape": "esc", "parameter": "par"}
+
+
+def refused(name, sentence, module, old, new):
+    return switch(f"trace-refused-{name}", sentence, module, old, new)
+
+
+def no_row(named):
+    """Where no row is told to be missing for a kind of command alone."""
+    return REASON.replace("= NO_ROW", f"= NO_ROW if {named} else None")
+
+
+REFUSALS = [
+    *(refused(f"{name}-{number}", f"A value that the row does not name is told as refused, and no other one: {name}.", "table",
+              f"engine.names({asked}){behind}", f"(engine.names({wrong}), {asked})[1]{behind}")
+      for name, asked, behind, wrongs in OF_VALUES for number, wrong in enumerate(wrongs, 1)),
+    *(refused(f"{name}-{number}", f"A value that no branch takes is told as refused: {name}.", "table", f"{before}False)", f"{before}{asked.format(wrong)})")
+      for name, before, asked, wrongs in OF_BRANCHES for number, wrong in enumerate(wrongs, 1)),
+    *(refused(name, "A command that is named, and finds nothing to do, is not refused.", "table", old, new) for name, old, new in FINDS),
+    *(refused(name, "A macro control that is named, and finds nothing to do, is not refused.", "macros", old, new) for name, old, new in NOT_FOUND),
+    *(refused(f"{name}-untold", "What has no row is refused.", "engine", REASON, no_row(f'self.kind[:3] != "{kind}"')) for name, kind in ROWLESS.items()),
+    refused("untold", "Why a command was refused is told.", T, '"refused": engine.refused', '"refused": None'),
+    refused("of-the-step-before", "A command that is not refused tells no reason.", "engine", "        self.refused = None\n        if", "        if"),
+    refused("in-hp-gl-untold", "A command that HP-GL/2 skips is refused.", "engine", REASON, REASON.replace("IN_HPGL", "None")),
+    refused("no-row-before-hp-gl", "HP-GL/2 is the reason also where a command has no row.", "engine", REASON, REASON.replace("IN_HPGL", "IN_HPGL if table.row_of(command) else NO_ROW")),
+    refused("hp-gl-of-rows-alone", "HP-GL/2 is the reason also where a command has no row.", "engine", REASON, REASON.replace("IN_HPGL", "IN_HPGL if table.row_of(command) else None")),
+    refused("value-before-hp-gl", "HP-GL/2 is the reason, whatever the value.", "engine", REASON,
+            REASON.replace("IN_HPGL", "NO_SUCH_VALUE if self.kind == \"par &lA\" and table.number(command) not in table.PAGE_SIZES else IN_HPGL")),
+    refused("no-row-in-a-body-untold", "A body is told of as the stream is: no row.", "engine", REASON, no_row("self.depth == 0")),
+    refused("in-hp-gl-in-a-body-untold", "A body is told of as the stream is: HP-GL/2.", "engine", REASON, REASON.replace("= IN_HPGL", "= IN_HPGL if self.depth == 0 else None")),
+    refused("value-in-a-body-untold", "A body is told of as the stream is: values.", "engine", "        if not named:\n", "        if not named and self.depth == 0:\n"),
+    refused("value-outside-untold", "A value is refused outside of bodies, too.", "engine", "        if not named:\n", "        if not named and self.depth:\n"),
+    refused("recorded", "A command that is recorded is not refused.", "engine", "            self.last = RECORDED\n", "            self.last = RECORDED\n            self.refused = None if table.row_of(command) else NO_ROW\n"),
+    refused("recorded-value", "A command that is recorded is not refused for its value.", "engine", "            self.last = RECORDED\n",
+            "            self.last = RECORDED\n            self.refused = NO_SUCH_VALUE if self.kind == \"par &lA\" and table.number(command) not in table.PAGE_SIZES else None\n"),
+    refused("value-as-no-row", "A value that is not named has its own reason.", "engine", "            self.refused = NO_SUCH_VALUE\n", "            self.refused = NO_ROW\n"),
+    *(refused(f"spelled-{word.split()[0].lower().replace('/', '-')}-{len(word)}", "The reasons have their words.", "engine", f'"{word}"', f'"{word.upper() if word.islower() else word.lower()}"')
+      for word in ("HP-GL/2", "no row", "no such value")),
+    *(refused(f"{name}-after-overlay", "A value that is not named is refused in an overlay, too.", "table", f"    if not engine.names({asked}) or engine.in_overlay:\n{behind}", f"    if engine.in_overlay or not engine.names({asked}):\n{behind}")
+      for name, asked, behind in (("page-size", "number(command) in PAGE_SIZES", ""), ("orientation", "number(command) in (0, 1, 2, 3)", ""),
+                                  ("sides", "number(command) in (0, 1, 2)", "        return\n    state = engine.state\n    yield from engine"),
+                                  ("side", "number(command) in (0, 1, 2)", "        return\n    state = engine.state\n    yield from close"))),
+]
+SWITCHES = REFUSALS + [switch(f"trace-{name}", f"The view tells the {name.replace('-', ' ')} of the state.", T, old, new) for name, old, new in SWAPPED] + [
     switch("trace-tells-all-again", "A field is told where it is another than behind the step before.", T, "    if before is None:\n        return after\n", "    return after\n"),
     switch("trace-tells-first-changes-alone", "The first line tells all fields.", T, "        self.view = None\n", "        self.view = view_of(self.engine.state)\n"),
     switch("trace-tells-objects-whole", "Of an object the fields that changed are told alone.", T, "            told[name] = other\n", "            told[name] = fields\n"),
