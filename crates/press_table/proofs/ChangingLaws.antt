@@ -3,7 +3,6 @@ use Rattle.std.proofs.Common.{◌≡◌, ◌∙◌, Option, Bool, true, false, I
 use Rattle.press_cmd.specs.Token.{Token}
 use Rattle.press_pattern.specs.declared.pattern.Pattern.{Pattern}
 use Rattle.press_table.specs.declared.effect.Effect.{Effect}
-use Rattle.press_table.specs.declared.effect.Effect.TheVariants as effects
 use Rattle.press_table.specs.declared.effect.Source.{Source}
 use Rattle.press_table.specs.declared.operation.Operation.{Operation}
 use Rattle.press_table.specs.declared.refusal.Refusal.{Refusal}

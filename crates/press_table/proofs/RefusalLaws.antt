@@ -79,14 +79,15 @@ refused-row source operation command state refused = grind (arith, no_row, other
 
 -- HP-GL/2 skips it, an overlay does, or its row refuses it
 either : (hp_gl in_overlay : Bool) (refusal : Option Refusal) (row : Effect) (state : State)
-    → is_some (if hp_gl then Some refusals.HpGl else refusal) ≡ true → (is_some refusal ≡ true → row ≡ Changes state)
-    → (if hp_gl || in_overlay then Changes state else row) ≡ Changes state
+    → is_some (if hp_gl then Some refusals.HpGl else if in_overlay then Some refusals.Overlay else refusal) ≡ true
+    → (is_some refusal ≡ true → row ≡ Changes state) → (if hp_gl || in_overlay then Changes state else row) ≡ Changes state
 either true in_overlay refusal row state refused by_row = refl
 either false true refusal row state refused by_row = refl
 either false false refusal row state refused by_row = by_row refused
 
-pub refused_nothing : (refusal : Option Refusal) (command : Token) (state : State) → refusal ≡ refusal_of command state → NothingIfRefused refusal command state
-refused_nothing refusal command state is refused runs source =
+pub refused_nothing : (refusal : Option Refusal) (source : Source) (command : Token) (state : State) → refusal ≡ refusal_of source command state
+    → NothingIfRefused refusal source command state
+refused_nothing refusal source command state is refused runs =
     let operation = operation_of (kind_of command) in
     rw runs
     (either (state.hp_gl && not (works_in_hp_gl operation)) (in_overlay source && not (works_in_overlay operation))

@@ -9,7 +9,7 @@ use Rattle.press_table.specs.Table.{effect_on}
 
 -- a command of the stream is not recorded, and changes nothing: HP-GL/2 skips it, or it has no row
 abbrev pub HasNoEffect : State → Token → Type 0
-HasNoEffect state command = (effect_on Stream command state ≡ Changes state) × (refusal_of command state ≡ Some (skipped_by state))
+HasNoEffect state command = (effect_on Stream command state ≡ Changes state) × (refusal_of Stream command state ≡ Some (skipped_by state))
 
 -- text bytes and bytes of another language have none
 pub record SkipsBytes (state : State) : Type 0 where

@@ -1,6 +1,6 @@
--- Why a command is refused: HP-GL/2 is on, which skips it; it has no row; or its row does not name its value. A command that is not
--- refused may have no effect, too: in an overlay, while raster graphics is on, or without a macro or a pattern (PCL 5 Printer Language
--- Technical Reference Manual, the commands by their sequences).
+-- Why a command is refused: HP-GL/2 is on, or an overlay runs, which skips it; it has no row; or its row does not name its value. A
+-- command that is not refused may have no effect, too: while raster graphics is on, or without a macro or a pattern (PCL 5 Printer
+-- Language Technical Reference Manual, the commands by their sequences, and Macros).
 use Rattle.std.specs.Prelude.{◌≡◌, ℤ, pos, negsuc, Bool, true, false, ◌&&◌, ◌||◌, not, is_some, if◌then◌else◌, Option, Some, None}
 use Rattle.std.specs.Ordering.{int_eq}
 use Rattle.press_units.specs.Value.{whole_part}
@@ -20,11 +20,12 @@ use Rattle.press_table.specs.declared.state.State.{State}
 use Rattle.press_table.specs.Closing.{selection_of}
 use Rattle.press_table.specs.Drawing.{greatest_pattern_id, is_opaque}
 use Rattle.press_table.specs.Macros.{greatest_macro_id, control_of}
+use Rattle.press_table.specs.Motion.{in_overlay}
 use Rattle.press_table.specs.Operation.{operation_of}
 use Rattle.press_table.specs.Outcome.{Changes}
 use Rattle.press_table.specs.Patterns.{kind_of_number, pattern_control_of}
 use Rattle.press_table.specs.Raster.{start_of, asked_offset}
-use Rattle.press_table.specs.Table.{effect_on, is_recorded, value_of, works_in_hp_gl}
+use Rattle.press_table.specs.Table.{effect_on, is_recorded, value_of, works_in_hp_gl, works_in_overlay}
 
 -- whether a number is 0 or 1
 abbrev pub is_switch : ℤ → Bool
@@ -94,20 +95,22 @@ row_refusal operation value environment =
     else if names_value operation value environment then None
     else Some refusals.NoSuchValue
 
--- The first of these that applies: HP-GL/2 is on, and skips the command; or its row refuses it.
-abbrev pub refusal_by : Operation → ℤ → State → Option Refusal
-refusal_by operation value state =
-    if state.hp_gl && not (works_in_hp_gl operation) then Some refusals.HpGl else row_refusal operation value state.environment
+-- The first of these that applies: HP-GL/2 is on, and skips the command; an overlay does, in which no page closes; or its row refuses it.
+abbrev pub refusal_by : Source → Operation → ℤ → State → Option Refusal
+refusal_by source operation value state =
+    if state.hp_gl && not (works_in_hp_gl operation) then Some refusals.HpGl
+    else if in_overlay source && not (works_in_overlay operation) then Some refusals.Overlay
+    else row_refusal operation value state.environment
 
--- Why a command that is not recorded is refused in a state, if it is.
-abbrev pub refusal_of : Token → State → Option Refusal
-refusal_of command state = refusal_by (operation_of (kind_of command)) (value_of command) state
+-- Why a command that is not recorded, and comes from there, is refused in a state, if it is.
+abbrev pub refusal_of : Source → Token → State → Option Refusal
+refusal_of source command state = refusal_by source (operation_of (kind_of command)) (value_of command) state
 
 -- why a command is refused that is passed over: HP-GL/2 where it is on, else that it has no row
 abbrev pub skipped_by : State → Refusal
 skipped_by state = if state.hp_gl then refusals.HpGl else refusals.NoRow
 
--- A command that is not recorded, and refused in a state for some reason, changes nothing, wherever it comes from.
-abbrev pub NothingIfRefused : Option Refusal → Token → State → Type 0
-NothingIfRefused refusal command state =
-    is_some refusal ≡ true → is_recorded command state ≡ false → (source : Source) → effect_on source command state ≡ Changes state
+-- A command that is not recorded, and refused in a state for some reason, changes nothing.
+abbrev pub NothingIfRefused : Option Refusal → Source → Token → State → Type 0
+NothingIfRefused refusal source command state =
+    is_some refusal ≡ true → is_recorded command state ≡ false → effect_on source command state ≡ Changes state

@@ -62,8 +62,8 @@ impl State {
         requires { kind ≡ kind_of (token command.now) }
         ensures changes { IfOk result (λ changed.
             ChangesOrStays (took changed) (token command.now) self.old self.new) }
-        ensures refusal { IfOk result (λ changed. IfTook changed (λ refusal.
-            refusal ≡ refusal_of (token command.now) self.old)) }
+        ensures refusal { IfOk result (λ changed. IfTook changed (λ refusal. (source : Source)
+            → refusal ≡ refusal_of source (token command.now) self.old)) }
         ensures memory { IsErr result
             → (source : Source) → TakesMemory (effect_on source (token command.now) self.old) }
     {

@@ -7,7 +7,7 @@ ghost use Rattle.press_table.specs.Drawing.{greatest_pattern_id};
 ghost use Rattle.press_table.specs.Refusals.{is_switch, is_size, fills_by};
 
 use crate::drawing::{GREATEST_PATTERN_ID, is_opaque};
-use crate::effect::Selection;
+use crate::effect::{Selection, Source};
 use crate::macro_control::MacroControl;
 use crate::operation::{Operation, operation_of};
 use crate::pattern_control::PatternControl;
@@ -22,12 +22,14 @@ use press_page::{
 use press_raster::{RasterResolution, RowCoding, side_of};
 use press_units::Value;
 
-/// Why a command is refused, and so has no effect. One that is not refused may have no effect, too: in an overlay, while raster graphics is
-/// on, or without a macro or a pattern.
+/// Why a command is refused, and so has no effect. One that is not refused may have no effect, too: while raster graphics is on, or without
+/// a macro or a pattern.
 #[derive(Clone, Copy, Debug, PartialEq, Eq)]
 pub enum Refusal {
     /// HP-GL/2 is on, and skips it.
     HpGl,
+    /// An overlay runs, in which no page closes, and skips it.
+    Overlay,
     /// The command table has no row for it.
     NoRow,
     /// Its row does not name its value, with page, margins and motion indices as they are.
@@ -149,17 +151,20 @@ impl State {
     ghost use Rattle.press_cmd.specs.View.{token};
     ghost use Rattle.press_table.specs.Refusals.{refusal_of, skipped_by, NothingIfRefused};
 
-    /// Why a command of this kind that is not recorded is refused now, if it is. One that is refused changes nothing.
+    /// Why a command of this kind that is not recorded, and comes from there, is refused now, if it is. One that is refused changes nothing.
     ///
-    /// Source: PCL 5 Printer Language Technical Reference Manual, the commands by their sequences.
-    pub fn refusal(&self, command: &Command<'_>, kind: Kind) -> Option<Refusal>
+    /// Source: PCL 5 Printer Language Technical Reference Manual, the commands by their sequences, and Macros.
+    pub fn refusal(&self, source: Source, command: &Command<'_>, kind: Kind) -> Option<Refusal>
         requires { kind ≡ kind_of (token command.now) }
-        ensures refusal { result ≡ refusal_of (token command.now) self.now }
-        ensures nothing { NothingIfRefused result (token command.now) self.now }
+        ensures refusal { result ≡ refusal_of source (token command.now) self.now }
+        ensures nothing { NothingIfRefused result source (token command.now) self.now }
     {
         let operation = operation_of(kind);
         if self.hp_gl && !operation.works_in_hp_gl() {
             return Some(Refusal::HpGl);
+        }
+        if source.in_overlay() && !operation.works_in_overlay() {
+            return Some(Refusal::Overlay);
         }
         operation.refusal(command.value(), &self.environment)
     }

@@ -21,7 +21,7 @@ impl Operation {
     }
 
     /// Whether the row has effect in an overlay, where no page closes.
-    fn works_in_overlay(self) -> bool
+    pub(crate) fn works_in_overlay(self) -> bool
         ensures { result ≡ works_in_overlay self }
     {
         !matches!(

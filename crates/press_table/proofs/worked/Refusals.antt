@@ -6,8 +6,9 @@ use Rattle.std.specs.Prelude.{codes}
 use Rattle.press_units.specs.declared.position.Resolution.TheVariants.{Dpi600}
 use Rattle.press_cmd.specs.Token.{Token, Control, Escape, ForeignByte, Grouped, PjlLine, Text, Uel, Ungrouped}
 use Rattle.press_page.specs.declared.environment.PageEnv.{PageEnv}
+use Rattle.press_table.specs.declared.effect.Source.TheVariants as sources
 use Rattle.press_table.specs.declared.refusal.Refusal.{Refusal}
-use Rattle.press_table.specs.declared.refusal.Refusal.TheVariants.{HpGl, NoRow, NoSuchValue}
+use Rattle.press_table.specs.declared.refusal.Refusal.TheVariants.{HpGl, Overlay, NoRow, NoSuchValue}
 use Rattle.press_table.specs.declared.state.State.{State}
 use Rattle.press_table.specs.Outcome.{power_on_state}
 use Rattle.press_table.specs.Refusals.{refusal_of}
@@ -16,7 +17,7 @@ abbrev sequence : Char → Char → String → Char → Token
 sequence character group field end = Grouped (code character) (code group) (codes field) (code end) []
 
 abbrev refusals_in : State → List Token → List (Option Refusal)
-refusals_in state commands = map (λ command. refusal_of command state) commands
+refusals_in state commands = map (λ command. refusal_of sources.Stream command state) commands
 
 -- text, a bell, a self test, a byte of another language and a font's pitch have no row; CR, a reset and the universal exit have one
 rows : refusals_in power_on_state (Text 72 ∷ Control 7 ∷ Escape 122 ∷ ForeignByte 72 ∷ sequence "(" "s" "10" "H" ∷ Control 13 ∷ Escape 69 ∷ Uel ∷ [])
@@ -30,6 +31,15 @@ in_hp_gl :
     ∷ PjlLine (codes "@PJL\n") ∷ Ungrouped (code "%") (codes "0") (code "A") [] ∷ [])
     ≡ Some HpGl ∷ Some HpGl ∷ Some HpGl ∷ Some HpGl ∷ Some HpGl ∷ None ∷ None ∷ None ∷ None ∷ []
 in_hp_gl = refl
+
+-- in an overlay the six rows that close the page are refused, whatever their value; text has no row there either; CR, LF and a move have effect
+in_an_overlay :
+    map (λ command. refusal_of sources.Overlay command power_on_state)
+    (Control 12 ∷ sequence "&" "l" "2" "A" ∷ sequence "&" "l" "4" "A" ∷ sequence "&" "l" "0" "O" ∷ sequence "&" "l" "0" "S" ∷ sequence "&" "l" "1" "H"
+    ∷ sequence "&" "a" "0" "G" ∷ Text 72 ∷ Control 13 ∷ Control 10 ∷ sequence "*" "p" "1" "X" ∷ sequence "*" "b" "4" "M" ∷ [])
+    ≡ Some Overlay ∷ Some Overlay ∷ Some Overlay ∷ Some Overlay ∷ Some Overlay ∷ Some Overlay ∷ Some Overlay ∷ Some NoRow ∷ None ∷ None ∷ None
+    ∷ Some NoSuchValue ∷ []
+in_an_overlay = refl
 
 -- page sizes 2 and 4, resolutions 75 and 200 of a page of 300, methods 3 and 4, the horizontal motion index up to and above the most, 0 and 1 copies
 values :

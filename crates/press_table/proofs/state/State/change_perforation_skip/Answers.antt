@@ -1,4 +1,4 @@
-use Rattle.std.proofs.Common.{◌≡◌, ◌≢◌, true, Bool, Option, Some, None, is_some, arith}
+use Rattle.std.proofs.Common.{◌≡◌, ◌≢◌, true, Bool, Option, is_some, arith}
 use Rattle.press_page.specs.Environment.{changed_by, with_skip}
 use Rattle.press_page.specs.declared.environment.PageEnv.{PageEnv}
 use Rattle.press_table.proofs.state.State.change_perforation_skip.Goals as goal
