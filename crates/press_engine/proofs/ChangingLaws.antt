@@ -7,9 +7,10 @@ use Rattle.press_table.specs.Counts.{counted}
 use Rattle.press_table.specs.Outcome.{Effect}
 use Rattle.press_table.specs.Refusals.{refusal_of}
 use Rattle.press_table.specs.Table.{effect_on}
+use Rattle.press_table.specs.declared.effect.Source.{Source}
 use Rattle.press_table.specs.declared.state.State.{State}
 use Rattle.press_engine.specs.declared.machine.Machine.{Machine}
-use Rattle.press_engine.specs.Begun.{Begun, begun, begun_only, source_in}
+use Rattle.press_engine.specs.Begun.{Begun, begun, begun_only, begins, source_in}
 use Rattle.press_engine.specs.Changing.{OnlyChanges}
 use Rattle.press_engine.specs.Fold.{run_all}
 use Rattle.press_engine.specs.Machine.{silent, with_state, taken, carried, macro_levels}
@@ -23,14 +24,15 @@ begun-left : (in_overlay : Bool) (levels : ℕ) (machine : Machine) (effect : Ef
 begun-left in_overlay levels machine effect state is = grind arith
 
 -- a machine with this state, one step further, by a command that was carried out
-abbrev pub stepped : Token → State → Machine → Machine
-stepped command state old =
-    record old { state = state; step = counted old.step 1; last = carried (kind_of command) (refusal_of command old.state) }
+abbrev pub stepped : Source → Token → State → Machine → Machine
+stepped source command state old =
+    record old { state = state; step = counted old.step 1; last = carried (kind_of command) (refusal_of source command old.state) }
 
-pub only_changes : (command : Token) (old : Machine) (state : State) → table.OnlyChanges command old.state state → OnlyChanges command old (stepped command state old)
+pub only_changes : (command : Token) (old : Machine) (state : State) → table.OnlyChanges command old.state state → (in_overlay : Bool) (levels : ℕ)
+    → begins in_overlay levels command old ≡ begun_only (silent (stepped (source_in in_overlay levels) command state old))
 only_changes command old state is in_overlay levels =
-    let at : Machine = taken command old in
-    begun-left in_overlay levels at (effect_on (source_in in_overlay levels) command old.state) state (is.changes (source_in in_overlay levels))
+    let source = source_in in_overlay levels in
+    begun-left in_overlay levels (taken source command old) (effect_on source command old.state) state (is.changes source)
     ∙ rw is.carried_out refl
 
 -- it is one item of the trace, and nothing goes out in it

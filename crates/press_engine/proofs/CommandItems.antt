@@ -12,7 +12,7 @@ use Rattle.press_engine.specs.declared.activation.Activation.{Activation}
 use Rattle.press_engine.specs.declared.activation.ActivationEnd.TheVariants as ends_by
 use Rattle.press_engine.specs.declared.machine.Machine.{Machine}
 use Rattle.press_engine.specs.Begun.{Begun, end_of, begun_only, source_in, begins}
-use Rattle.press_engine.specs.Machine.{StepResult, silent, with_state, taken, deeper, enter_body, enter_overlay, overlay_levels}
+use Rattle.press_engine.specs.Machine.{StepResult, silent, with_state, taken, deeper, enter_body, enter_overlay, overlay_levels, source_at}
 use Rattle.press_engine.specs.Stack.{items_at, items_in, room_where}
 use Rattle.press_engine.specs.Trace.{with_end, trace_each, begun_items, inside_of, trace_in_overlay, trace_at}
 use Rattle.press_engine.proofs.BegunLemmas.{IsAlone, StartsBody, begun-cases}
@@ -31,7 +31,7 @@ abbrev pub taking_in : Activation → Token → Machine → Taking
 taking_in activation = taking activation.in_overlay activation.macro_levels
 
 abbrev pub now : Taking → Machine
-now at = taken at.command at.machine
+now at = taken (source_in at.in_overlay at.levels) at.command at.machine
 
 abbrev pub effect_at : Taking → Effect
 effect_at at = effect_on (source_in at.in_overlay at.levels) at.command at.machine.state
@@ -86,12 +86,12 @@ module _ (P : Taking → Begun → List StepResult → Type 0)
 
   overlay-all : (levels : ℕ) (command : Token) (machine : Machine) → StartsBody (effect_at (taking false levels command machine))
       → (commands : List Token) (cause : EjectCause) (state : State)
-      → let before = with_state state (taken command machine) in
+      → let before = with_state state (taken (source_at levels) command machine) in
       P (taking false levels command machine) (record { item = silent (enter_overlay before); started = of_overlay commands cause before ∷ [] })
       (with_end (end_of (of_overlay commands cause before)) (silent (enter_overlay before))
       (trace_each (trace_in_overlay overlay_levels) commands (enter_overlay before)))
   overlay-all levels command machine starts commands cause state =
-      let before = with_state state (taken command machine) in
+      let before = with_state state (taken (source_at levels) command machine) in
       body (taking false levels command machine) (silent (enter_overlay before)) (of_overlay commands cause before)
       (record { effect = starts; last = refl; step = refl; depth = refl; outside = refl; room = omega arith }) (in_overlay-all overlay_levels)
 

@@ -49,11 +49,11 @@ begun-state false zero state machine (rows.Starts commands end inside) = refl
 begun-state false (suc more) state machine (rows.Starts commands end inside) = refl
 
 pub begins-from : (in_overlay : Bool) (macro_levels : ℕ) (command : Token) (old now : Machine) (effect : Effect)
-    → now ≡ with_state now.state (taken command old)
+    → now ≡ with_state now.state (taken (source_in in_overlay macro_levels) command old)
     → effect_of now.state effect ≡ effect_on (source_in in_overlay macro_levels) command old.state
     → begun in_overlay macro_levels now (effect_of now.state effect) ≡ begins in_overlay macro_levels command old
 begins-from in_overlay macro_levels command old now effect is_taken gives =
-    grind (arith, is_taken, begun-state in_overlay macro_levels now.state (taken command old) (effect_of now.state effect), gives)
+    grind (arith, is_taken, begun-state in_overlay macro_levels now.state (taken (source_in in_overlay macro_levels) command old) (effect_of now.state effect), gives)
 
 -- an effect with which all is done begins nothing
 pub done-begins : (in_overlay : Bool) (more : ℕ) (machine : Machine) (effect : Effect) → is_done effect ≡ true →

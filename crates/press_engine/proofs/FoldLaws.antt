@@ -67,9 +67,9 @@ zero-in before machine effect = grind arith
 
 tells-overlay : (levels : ℕ) (command : Token) (machine : Machine) → Tells (trace_in_overlay levels command machine) machine (whole_in_overlay levels command machine)
 unfolding trace_in_overlay whole_in_overlay
-tells-overlay zero command machine = zero-in machine (taken command machine) (effect_on sources.Overlay command machine.state)
+tells-overlay zero command machine = zero-in machine (taken sources.Overlay command machine) (effect_on sources.Overlay command machine.state)
 tells-overlay (suc more) command machine =
-    tells-in (whole_in_overlay more) (trace_in_overlay more) (tells-overlay more) more machine (taken command machine) (effect_on sources.Overlay command machine.state)
+    tells-in (whole_in_overlay more) (trace_in_overlay more) (tells-overlay more) more machine (taken sources.Overlay command machine) (effect_on sources.Overlay command machine.state)
 
 -- ---- outside
 
@@ -108,9 +108,9 @@ zero-out before machine (Starts commands end state) = tells-one before (finish_w
 
 tells-at : (levels : ℕ) (command : Token) (machine : Machine) → Tells (trace_at levels command machine) machine (whole_at levels command machine)
 unfolding trace_at whole_at
-tells-at zero command machine = zero-out machine (taken command machine) (effect_on (source_at 0) command machine.state)
+tells-at zero command machine = zero-out machine (taken (source_at 0) command machine) (effect_on (source_at 0) command machine.state)
 tells-at (suc more) command machine =
-    tells-out (whole_at more) (trace_at more) (tells-at more) more machine (taken command machine) (effect_on (source_at (suc more)) command machine.state)
+    tells-out (whole_at more) (trace_at more) (tells-at more) more machine (taken (source_at (suc more)) command machine) (effect_on (source_at (suc more)) command machine.state)
 
 -- Each command, and commands one after another.
 pub trace_tells_the_run : TraceTellsTheRun

@@ -5,6 +5,7 @@ use Rattle.std.specs.List.{AllByRecursion}
 use Rattle.press_cmd.specs.Token.{Token}
 use Rattle.press_cmd.specs.Kinds.{kind_of}
 use Rattle.press_engine.specs.declared.machine.Machine.{Machine}
+use Rattle.press_table.specs.declared.effect.Source.TheVariants.{Stream}
 use Rattle.press_table.specs.declared.state.State.{State}
 use Rattle.press_engine.specs.Machine.{silent, taken, macro_levels}
 use Rattle.press_table.specs.Outcome.{Effect, Changes, MayAllocate}
@@ -18,7 +19,7 @@ use Rattle.press_engine.proofs.Runs.{told_all}
 not_recorded : (recorded : Bool) (state : State) (other : State) (row : Effect) → (if recorded then MayAllocate other else row) ≡ Changes state → recorded ≡ false
 not_recorded recorded state other row is = grind arith
 
-taken-passed : (command : Token) (machine : Machine) → HasNoEffect machine.state command → taken command machine ≡ passed 1 (kind_of command) machine
+taken-passed : (command : Token) (machine : Machine) → HasNoEffect machine.state command → taken Stream command machine ≡ passed 1 (kind_of command) machine
 taken-passed command machine none =
     let closed : is_recorded command machine.state ≡ false = not_recorded (is_recorded command machine.state) machine.state _ _ none.0 in
     rw (closed, none.1) refl

@@ -57,7 +57,7 @@ body-counts at item activation starts inside =
           (with_end-takes (end_of activation) (end-last activation.end activation.depth) item items),
     )
 
-at-counts : (command : Token) (machine : Machine) → CountFrom machine (trace_at macro_levels command machine) × TakesFirst (last_of command machine.state) (trace_at macro_levels command machine)
+at-counts : (command : Token) (machine : Machine) → CountFrom machine (trace_at macro_levels command machine) × TakesFirst (last_of (source_at macro_levels) command machine.state) (trace_at macro_levels command machine)
 at-counts command machine = command-all Counts (λ at item is. ((is.step, tt), is.last)) body-counts (taking false macro_levels command machine)
 
 pub each_item_is_one_step : (commands : List Token) (machine : Machine) → CountFrom machine (trace_each (trace_at macro_levels) commands machine)
@@ -80,7 +80,7 @@ page-kept : (command : Token) (machine : Machine) → kind_may_change_page (kind
     → (item : StepResult) × (trace_at macro_levels command machine ≡ item ∷ []) × (item.machine.state.page ≡ machine.state.page)
 unfolding trace_at
 page-kept command machine keeps =
-    grind (arith, begun-keeps (taken command machine) machine.state (effect_on (source_at macro_levels) command machine.state) (row_keeps_the_page (source_at macro_levels) command machine.state keeps))
+    grind (arith, begun-keeps (taken (source_at macro_levels) command machine) machine.state (effect_on (source_at macro_levels) command machine.state) (row_keeps_the_page (source_at macro_levels) command machine.state keeps))
 
 pub others_keep_the_page : OthersKeepThePage
 others_keep_the_page = record { takes = λ command machine. (at-counts command machine).1; keeps = page-kept }
@@ -102,7 +102,7 @@ lines-kept : (command : Token) (machine : Machine) → kind_transfers_rows (kind
     → (item : StepResult) × (trace_at macro_levels command machine ≡ item ∷ []) × KeepsOtherLines machine.state item.machine.state
 unfolding trace_at
 lines-kept command machine rows =
-    grind (arith, begun-lines (taken command machine) machine.state (effect_on (source_at macro_levels) command machine.state) (row_keeps_other_lines (source_at macro_levels) command machine.state rows))
+    grind (arith, begun-lines (taken (source_at macro_levels) command machine) machine.state (effect_on (source_at macro_levels) command machine.state) (row_keeps_other_lines (source_at macro_levels) command machine.state rows))
 
 pub rows_keep_other_lines : RowsKeepOtherLines
 rows_keep_other_lines = record { keeps = lines-kept }

@@ -6,6 +6,7 @@ use Rattle.press_cmd.specs.Kinds.{kind_of}
 use Rattle.press_cmd.specs.declared.variant.Kind.{Kind}
 use Rattle.press_table.specs.declared.effect.Sent.{Sent}
 use Rattle.press_table.specs.declared.refusal.Refusal.{Refusal}
+use Rattle.press_table.specs.declared.effect.Source.{Source}
 use Rattle.press_engine.specs.declared.activation.Activation.{Activation}
 use Rattle.press_engine.specs.declared.machine.Last.{Last}
 use Rattle.press_engine.specs.declared.machine.Last.TheVariants as lasts
@@ -33,14 +34,14 @@ step-last at round =
 kind-if : (recorded : Bool) (kind : Kind) (refusal : Option Refusal) → IsOfKind (if recorded then lasts.Recorded kind else carried kind refusal) kind
 kind-if recorded kind refusal = grind arith
 
-pub last-kind : (command : Token) (machine : Machine) (last : Last) → last ≡ last_of command machine.state → IsOfKind last (kind_of command)
-last-kind command machine last is = grind (arith, kind-if)
+pub last-kind : (source : Source) (command : Token) (machine : Machine) (last : Last) → last ≡ last_of source command machine.state → IsOfKind last (kind_of command)
+last-kind source command machine last is = grind (arith, kind-if)
 
 some-last : (last : Last) (kind : Kind) → IsOfKind last kind → last ≢ lasts.Nothing
 some-last last kind of_kind = grind arith
 
-pub taken-last : (command : Token) (machine : Machine) (last : Last) → last ≡ last_of command machine.state → last ≢ lasts.Nothing
-taken-last command machine last is = some-last last (kind_of command) (last-kind command machine last is)
+pub taken-last : (source : Source) (command : Token) (machine : Machine) (last : Last) → last ≡ last_of source command machine.state → last ≢ lasts.Nothing
+taken-last source command machine last is = some-last last (kind_of command) (last-kind source command machine last is)
 
 -- a step of the code gives the first of the items that were owed
 pub steps-to : (owing : List StepResult) (stepped : Stepped) (kind : Kind) (sent : Vec Sent Global) (new : Machine)

@@ -83,4 +83,5 @@ source_in false levels = source_at levels
 -- what a command begins
 abbrev pub begins : Bool → (macro_levels : ℕ) → Token → Machine → Begun
 begins in_overlay levels command machine =
-    begun in_overlay levels (taken command machine) (effect_on (source_in in_overlay levels) command machine.state)
+    let source = source_in in_overlay levels in
+    begun in_overlay levels (taken source command machine) (effect_on source command machine.state)

@@ -47,9 +47,9 @@ effect_in_overlay one machine effect = silent (with_state (state_of effect) mach
 -- Where none may, a command that would start one changes nothing.
 unfoldable pub whole_in_overlay : (levels : ℕ) → Token → Machine → StepResult
 whole_in_overlay zero command machine =
-    silent (with_state (state_of (effect_on sources.Overlay command machine.state)) (taken command machine))
+    silent (with_state (state_of (effect_on sources.Overlay command machine.state)) (taken sources.Overlay command machine))
 whole_in_overlay (suc more) command machine =
-    effect_in_overlay (whole_in_overlay more) (taken command machine) (effect_on sources.Overlay command machine.state)
+    effect_in_overlay (whole_in_overlay more) (taken sources.Overlay command machine) (effect_on sources.Overlay command machine.state)
 
 -- A page closes behind an overlay: what a call restores is as it was before the overlay, the
 -- cursor is put back where it was then, and after that the page closes.
@@ -78,9 +78,9 @@ effect_outside one machine effect = effect_whole machine effect
 
 -- A command outside an overlay, carried out whole, where so many macros may start, one in another.
 unfoldable pub whole_at : (levels : ℕ) → Token → Machine → StepResult
-whole_at zero command machine = effect_whole (taken command machine) (effect_on (source_at 0) command machine.state)
+whole_at zero command machine = effect_whole (taken (source_at 0) command machine) (effect_on (source_at 0) command machine.state)
 whole_at (suc more) command machine =
-    effect_outside (whole_at more) (taken command machine) (effect_on (source_at (suc more)) command machine.state)
+    effect_outside (whole_at more) (taken (source_at (suc more)) command machine) (effect_on (source_at (suc more)) command machine.state)
 
 -- A command of the stream, and commands of the stream one after another.
 abbrev pub run : Token → Machine → StepResult

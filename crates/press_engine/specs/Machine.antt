@@ -47,13 +47,14 @@ carried kind None = lasts.Ran kind
 carried kind (Some refusal) = lasts.Refused kind refusal
 
 -- what a step takes: a command that is recorded; or one that is not, and that is refused or not
-abbrev pub last_of : Token → State → Last
-last_of command state =
-    if is_recorded command state then lasts.Recorded (kind_of command) else carried (kind_of command) (refusal_of command state)
+abbrev pub last_of : Source → Token → State → Last
+last_of source command state =
+    if is_recorded command state then lasts.Recorded (kind_of command)
+    else carried (kind_of command) (refusal_of source command state)
 
--- A command is taken: that is one more step.
-abbrev pub taken : Token → Machine → Machine
-taken command machine = record machine { step = counted machine.step 1; last = last_of command machine.state }
+-- A command is taken, which comes from there: that is one more step.
+abbrev pub taken : Source → Token → Machine → Machine
+taken source command machine = record machine { step = counted machine.step 1; last = last_of source command machine.state }
 
 -- one running body more; the greatest number stays
 abbrev pub deeper : ℕ → ℕ

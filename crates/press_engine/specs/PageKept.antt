@@ -2,6 +2,7 @@
 use Rattle.std.specs.Prelude.{◌≡◌, true, false, List, [], ◌∷◌}
 use Rattle.press_cmd.specs.Token.{Token}
 use Rattle.press_cmd.specs.Kinds.{kind_of}
+use Rattle.press_table.specs.declared.effect.Source.TheVariants.{Stream}
 use Rattle.press_table.specs.PageKept.{KeepsOtherLines, kind_may_change_page, kind_transfers_rows}
 use Rattle.press_engine.specs.declared.machine.Last.{Last}
 use Rattle.press_engine.specs.declared.machine.Machine.{Machine}
@@ -17,7 +18,7 @@ TakesFirst last (item ∷ items) = item.machine.last ≡ last
 -- and the open page is the one before.
 pub record OthersKeepThePage : Type 0 where
   pub takes : (command : Token) (machine : Machine)
-      → TakesFirst (last_of command machine.state) (trace_at macro_levels command machine)
+      → TakesFirst (last_of Stream command machine.state) (trace_at macro_levels command machine)
   pub keeps : (command : Token) (machine : Machine) → kind_may_change_page (kind_of command) ≡ false
       → (item : StepResult) × (trace_at macro_levels command machine ≡ item ∷ []) × (item.machine.state.page ≡ machine.state.page)
 

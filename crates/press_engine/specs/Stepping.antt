@@ -35,7 +35,7 @@ abbrev pub TakesFirst : Activation → Token → (old : Machine) → Option Effe
 TakesFirst activation command old None new = OnlyChanges command old new
 TakesFirst activation command old (Some effect) new =
     (effect_of new.state effect ≡ first_effect activation command old.state)
-    × (new ≡ with_state new.state (taken command old))
+    × (new ≡ with_state new.state (taken (source_in activation.in_overlay activation.macro_levels) command old))
 
 -- what such a command begins, by its effect, if it does more
 abbrev pub begun_by : Bool → (macro_levels : ℕ) → Option Effect → Machine → Begun

@@ -103,7 +103,7 @@ impl Machine {
         ensures effect { IfOk result (λ effect. effect_of self.new.state effect
             ≡ effect_on source (token command.now) self.old.state) }
         ensures taken { IfOk result (λ _.
-            self.new ≡ with_state self.new.state (taken (token command.now) self.old)) }
+            self.new ≡ with_state self.new.state (taken source (token command.now) self.old)) }
         ensures memory { IsErr result
             → TakesMemory (effect_on source (token command.now) self.old.state) }
     {
@@ -112,7 +112,7 @@ impl Machine {
         let last = if records {
             Last::Recorded(kind)
         } else {
-            carried(kind, self.state.refusal(command, kind))
+            carried(kind, self.state.refusal(source, command, kind))
         };
         let effect = self.state.row(alloc, source, command, kind, records)?;
         self.step = self.step.saturating_add(1);

@@ -10,6 +10,7 @@ use Rattle.press_table.specs.declared.effect.BodyEnd.TheVariants as ends
 use Rattle.press_table.specs.declared.effect.EjectCause.{EjectCause}
 use Rattle.press_table.specs.declared.effect.EjectCause.TheVariants as causes
 use Rattle.press_table.specs.declared.effect.Source.TheVariants as sources
+use Rattle.press_table.specs.declared.refusal.Refusal.TheVariants as refusals
 use Rattle.press_table.specs.declared.operation.Operation.TheVariants.{FormFeed, Reset}
 use Rattle.press_table.specs.declared.state.State.{State}
 use Rattle.press_table.specs.Calls.{kept_of, overlay_body}
@@ -50,9 +51,9 @@ fold-one one command machine =
 
 -- A command of the stream whose effect is this, carried out whole.
 whole_by : (command : Token) (before : Machine) (effect : Effect) → effect_on (source_at 2) command before.state ≡ effect
-    → whole_at 2 command before ≡ effect_outside (whole_at 1) (taken command before) effect
+    → whole_at 2 command before ≡ effect_outside (whole_at 1) (taken sources.Stream command before) effect
 unfolding whole_at
-whole_by command before effect is = ap (effect_outside (whole_at 1) (taken command before)) is
+whole_by command before effect is = ap (effect_outside (whole_at 1) (taken sources.Stream command before)) is
 
 -- What is told of a run: how many steps were taken, how many bodies run, what the last step took, and what went out.
 abbrev Told : Type 0
@@ -84,9 +85,9 @@ unfolding fold whole_at
 third_starts = ap (λ found. start_body found (ends.Call (kept_of third.state)) third.state) (macro_is_found body)
 
 -- The third one changes nothing.
-third_call : whole_at 0 call third ≡ silent (taken call third)
+third_call : whole_at 0 call third ≡ silent (taken sources.Macro call third)
 unfolding whole_at
-third_call = ap (effect_whole (taken call third)) third_starts
+third_call = ap (effect_whole (taken sources.Macro call third)) third_starts
 
 -- A call of a body that ends in a call: its commands before that, what that leaves, and then the end, which restores.
 abbrev before_inner : (levels : ℕ) → (before : Machine) → Machine
@@ -99,19 +100,21 @@ called_with levels before inner =
 call_of : (levels : ℕ) (before : Machine) (inner : StepResult)
     → effect_on (source_at (suc levels)) call before.state ≡ call_effect body before
     → whole_at levels call (before_inner levels before) ≡ inner
+    → taken (source_at (suc levels)) call before ≡ taken sources.Stream call before
     → whole_at (suc levels) call before ≡ called_with levels before inner
 unfolding whole_at
-call_of levels before inner starts same =
-    ap (effect_outside (whole_at levels) (taken call before)) starts
+call_of levels before inner starts same from =
+    ap (effect_outside (whole_at levels) (taken (source_at (suc levels)) call before)) starts
+    ∙ ap (λ at. effect_outside (whole_at levels) at (call_effect body before)) from
     ∙ ap (λ run. body_and_end run (call_end before))
     (fold-append (whole_at levels) dot_and_move (call ∷ []) (inside_call before)
     ∙ ap (then_run (fold (whole_at levels) dot_and_move (inside_call before)).outputs) (fold-one (whole_at levels) call (before_inner levels before) ∙ same))
 
 abbrev called : StepResult
-called = called_with 1 first (called_with 0 second (silent (taken call third)))
+called = called_with 1 first (called_with 0 second (silent (taken sources.Macro call third)))
 
 first_call : whole_at 2 call first ≡ called
-first_call = call_of 1 first (called_with 0 second (silent (taken call third))) first_starts (call_of 0 second (silent (taken call third)) second_starts third_call)
+first_call = call_of 1 first (called_with 0 second (silent (taken sources.Macro call third))) first_starts (call_of 0 second (silent (taken sources.Macro call third)) second_starts third_call refl) refl
 
 -- The definition, the call and what comes then.
 abbrev stream_with : (others : List Token) → (inner : StepResult) → StepResult
@@ -141,17 +144,17 @@ the_cursor_stays_where_the_calls_left_it = ap (λ (run : StepResult). run.machin
 close_with_overlay : (command : Token) (commands : List Token) (cause : EjectCause) (before : Machine) (state : State)
     → effect_on (source_at 2) command before.state ≡ Closes cause state
     → overlay_body state ≡ Some commands
-    → whole_at 2 command before ≡ close_whole (Some commands) cause (with_state state (taken command before))
+    → whole_at 2 command before ≡ close_whole (Some commands) cause (with_state state (taken sources.Stream command before))
 close_with_overlay command commands cause before state closes found =
     whole_by command before (Closes cause state) closes
-    ∙ ap (λ body. close_whole body cause (with_state state (taken command before))) found
+    ∙ ap (λ body. close_whole body cause (with_state state (taken sources.Stream command before))) found
 
 abbrev with_overlay : Machine
 with_overlay = (run_all overlaid power_on).machine
 
 -- a form feed, with the overlay
 abbrev fed : (before : Machine) → StepResult
-fed before = close_whole (Some four_dots) causes.Feed (with_state before.state (taken form_feed before))
+fed before = close_whole (Some four_dots) causes.Feed (with_state before.state (taken sources.Stream form_feed before))
 
 first_overlay : overlay_body with_overlay.state ≡ Some four_dots
 unfolding fold whole_at
@@ -238,7 +241,7 @@ unfolding fold whole_at
 overlay_under_the_exit = second_macro_is_found four_dots
 
 abbrev exit_closed : StepResult
-exit_closed = close_whole (Some four_dots) exit_closes (with_state dropped (taken Uel in_definition))
+exit_closed = close_whole (Some four_dots) exit_closes (with_state dropped (taken sources.Stream Uel in_definition))
 
 exit_gives : whole_at 2 Uel in_definition ≡ exit_closed
 exit_gives =
@@ -256,12 +259,12 @@ whole_exit =
 abbrev exit_sheet : Output
 exit_sheet = sheet_of (dotted 75 187 4 (dotted 75 187 1 letter))
 
-computed_last_page : told_of last_page ≡ (18, 0, lasts.Ran (kind_of form_feed), exit_sheet ∷ [])
+computed_last_page : told_of last_page ≡ (18, 0, lasts.Refused (kind_of form_feed) refusals.Overlay, exit_sheet ∷ [])
 unfolding fold whole_at whole_in_overlay
 computed_last_page = refl
 
 the_exit_drops_a_definition :
-    told_of (run_all (open_definition ++ exit) power_on) ≡ (18, 0, lasts.Ran (kind_of form_feed), exit_sheet ∷ [])
+    told_of (run_all (open_definition ++ exit) power_on) ≡ (18, 0, lasts.Refused (kind_of form_feed) refusals.Overlay, exit_sheet ∷ [])
 the_exit_drops_a_definition = ap told_of whole_exit ∙ computed_last_page
 
 -- A body that deletes its own macro runs on, and a second execute finds no macro.
@@ -269,7 +272,7 @@ abbrev ready : Machine
 ready = (run_all deleting_defined power_on).machine
 
 abbrev executed : StepResult
-executed = macro_whole (whole_at 1) deleting ends.Execute ready.state (taken execute ready)
+executed = macro_whole (whole_at 1) deleting ends.Execute ready.state (taken sources.Stream execute ready)
 
 execute_starts : effect_on (source_at 2) execute ready.state ≡ Starts deleting ends.Execute ready.state
 unfolding fold whole_at
@@ -282,13 +285,13 @@ second_changes = ap (λ found. start_body found ends.Execute executed.machine.st
 first_execute : whole_at 2 execute ready ≡ executed
 first_execute = whole_by execute ready (Starts deleting ends.Execute ready.state) execute_starts
 
-second_execute : whole_at 2 execute executed.machine ≡ silent (taken execute executed.machine)
+second_execute : whole_at 2 execute executed.machine ≡ silent (taken sources.Stream execute executed.machine)
 second_execute = whole_by execute executed.machine (Changes executed.machine.state) second_changes
 
 abbrev after_deletion : StepResult
 after_deletion =
     then_run (run_all deleting_defined power_on).outputs
-    (then_run executed.outputs (then_run [] (run_all page_and_exit (taken execute executed.machine))))
+    (then_run executed.outputs (then_run [] (run_all page_and_exit (taken sources.Stream execute executed.machine))))
 
 whole_deletion : run_all (deleting_defined ++ (execute ∷ execute ∷ page_and_exit)) power_on ≡ after_deletion
 whole_deletion =

@@ -24,6 +24,7 @@ use Rattle.press_table.specs.declared.effect.EjectCause.{EjectCause}
 use Rattle.press_table.specs.declared.effect.EjectCause.TheVariants as causes
 use Rattle.press_table.specs.declared.effect.PageChange.TheVariants as page_changes
 use Rattle.press_table.specs.declared.effect.Source.TheVariants as sources
+use Rattle.press_table.specs.declared.refusal.Refusal.TheVariants as refusals
 use Rattle.press_engine.specs.declared.machine.Last.{Last}
 use Rattle.press_engine.specs.declared.machine.Last.TheVariants as lasts
 use Rattle.press_engine.specs.declared.machine.Machine.{Machine}
@@ -75,7 +76,7 @@ abbrev pub call_end : (before : Machine) → Machine → StepResult
 call_end before after = silent (leave_body (ends.Call (kept_of before.state)) before.depth after)
 
 abbrev pub inside_call : Machine → Machine
-inside_call before = enter_body (ends.Call (kept_of before.state)) before.state (taken call before)
+inside_call before = enter_body (ends.Call (kept_of before.state)) before.state (taken sources.Stream call before)
 
 abbrev pub call_effect : List Token → Machine → Effect
 call_effect commands before = Starts commands (ends.Call (kept_of before.state)) before.state
@@ -83,9 +84,9 @@ call_effect commands before = Starts commands (ends.Call (kept_of before.state))
 call_items :
     (macro_levels : ℕ) (commands : List Token) (before : Machine)
     → effect_on (source_at (suc macro_levels)) call before.state ≡ call_effect commands before
-    → trace_at (suc macro_levels) call before ≡ outside_items macro_levels (taken call before) (call_effect commands before)
+    → trace_at (suc macro_levels) call before ≡ outside_items macro_levels (taken (source_at (suc macro_levels)) call before) (call_effect commands before)
 unfolding trace_at
-call_items macro_levels commands before starts = ap (outside_items macro_levels (taken call before)) starts
+call_items macro_levels commands before starts = ap (outside_items macro_levels (taken (source_at (suc macro_levels)) call before)) starts
 
 -- ESC*p0x0Y, ESC&f1y0X, ESC*c1a1b0P, ESC*p+2X, ESC&f3X, ESC&f1X, ESC&f3X: a macro that paints a dot, moves two units and
 -- calls itself, is called; a third one does not run
@@ -122,9 +123,9 @@ third_starts : effect_on (source_at 0) call third.state ≡ call_effect body thi
 unfolding trace_each trace_at
 third_starts = ap (λ found. start_body found (ends.Call (kept_of third.state)) third.state) (macro_is_found body)
 
-third_item : trace_at 0 call third ≡ silent (taken call third) ∷ []
+third_item : trace_at 0 call third ≡ silent (taken sources.Macro call third) ∷ []
 unfolding trace_at
-third_item = ap (λ effect. begun_items (λ body. trace_in_overlay overlay_levels) (begun_outside 0 (taken call third) effect)) third_starts
+third_item = ap (λ effect. begun_items (λ body. trace_in_overlay overlay_levels) (begun_outside 0 (taken sources.Macro call third) effect)) third_starts
 
 -- The items of commands: those of the first, and then those of the others; and those of a body that ends in a call, by those of
 -- the call.
@@ -151,25 +152,28 @@ after_prefix macro_levels prefix before = last_machine (inside_call before) (tra
 call_after :
     (macro_levels : ℕ) (prefix : List Token) (before : Machine) (inner : List StepResult)
     → trace_at macro_levels call (after_prefix macro_levels prefix before) ≡ inner
-    → outside_items macro_levels (taken call before) (call_effect (prefix ++ (call ∷ [])) before) ≡ body_with macro_levels prefix before inner
-call_after macro_levels prefix before inner same =
-    ap (λ items. with_end (call_end before) (silent (inside_call before)) items)
+    → taken (source_at (suc macro_levels)) call before ≡ taken sources.Stream call before
+    → outside_items macro_levels (taken (source_at (suc macro_levels)) call before) (call_effect (prefix ++ (call ∷ [])) before)
+    ≡ body_with macro_levels prefix before inner
+call_after macro_levels prefix before inner same from =
+    ap (λ at. outside_items macro_levels at (call_effect (prefix ++ (call ∷ [])) before)) from
+    ∙ ap (λ items. with_end (call_end before) (silent (inside_call before)) items)
     (trace_each-append (trace_at macro_levels) prefix (call ∷ []) (inside_call before)
     ∙ ap (λ more. trace_each (trace_at macro_levels) prefix (inside_call before) ++ more)
     (trace_each-one (trace_at macro_levels) call (after_prefix macro_levels prefix before) ∙ same))
 
-second_items : trace_at 1 call second ≡ body_with 0 dot_and_move second (silent (taken call third) ∷ [])
+second_items : trace_at 1 call second ≡ body_with 0 dot_and_move second (silent (taken sources.Macro call third) ∷ [])
 second_items =
     call_items 0 body second second_starts
-    ∙ call_after 0 dot_and_move second (silent (taken call third) ∷ []) third_item
+    ∙ call_after 0 dot_and_move second (silent (taken sources.Macro call third) ∷ []) third_item refl
 
 abbrev pub called : List StepResult
-called = body_with 1 dot_and_move first (body_with 0 dot_and_move second (silent (taken call third) ∷ []))
+called = body_with 1 dot_and_move first (body_with 0 dot_and_move second (silent (taken sources.Macro call third) ∷ []))
 
 pub first_items : trace_at 2 call first ≡ called
 first_items =
     call_items 1 body first first_starts
-    ∙ call_after 1 dot_and_move first (body_with 0 dot_and_move second (silent (taken call third) ∷ [])) second_items
+    ∙ call_after 1 dot_and_move first (body_with 0 dot_and_move second (silent (taken sources.Macro call third) ∷ [])) second_items refl
 
 -- The items of the definition, the call and what comes then.
 abbrev stream_with : (others : List Token) → (inner : List StepResult) → List StepResult
@@ -258,11 +262,11 @@ close_with_overlay :
     (command : Token) (commands : List Token) (cause : EjectCause) (before : Machine) (state : State)
     → effect_on (source_at 2) command before.state ≡ Closes cause state
     → overlay_body state ≡ Some commands
-    → trace_at 2 command before ≡ begun_items (inside_of (trace_at 1)) (begun_close (Some commands) cause (with_state state (taken command before)))
+    → trace_at 2 command before ≡ begun_items (inside_of (trace_at 1)) (begun_close (Some commands) cause (with_state state (taken sources.Stream command before)))
 unfolding trace_at
 close_with_overlay command commands cause before state closes found =
-    ap (outside_items 1 (taken command before)) closes
-    ∙ ap (λ body. begun_items (inside_of (trace_at 1)) (begun_close body cause (with_state state (taken command before)))) found
+    ap (outside_items 1 (taken sources.Stream command before)) closes
+    ∙ ap (λ body. begun_items (inside_of (trace_at 1)) (begun_close body cause (with_state state (taken sources.Stream command before)))) found
 
 pub second_macro_is_found : (commands : List Token) → body_of (one_macro 2 commands) 2 ≡ Some commands
 second_macro_is_found commands = found-stored maps.empty 2 commands
@@ -279,7 +283,7 @@ with_overlay = last_machine power_on (trace overlaid power_on)
 
 -- a form feed, with the overlay's items, and what it leaves
 abbrev pub fed_items : (before : Machine) → List StepResult
-fed_items before = begun_items (inside_of (trace_at 1)) (begun_close (Some four_dots) causes.Feed (with_state before.state (taken form_feed before)))
+fed_items before = begun_items (inside_of (trace_at 1)) (begun_close (Some four_dots) causes.Feed (with_state before.state (taken sources.Stream form_feed before)))
 
 abbrev fed : Machine → Machine
 fed before = last_machine before (fed_items before)
@@ -369,7 +373,7 @@ close_seen closing page =
     ∷ ran 1 (sequence "*" "c" "4" "A")
     ∷ ran 1 (sequence "*" "c" "1" "B")
     ∷ ran 1 (sequence "*" "c" "0" "P")
-    ∷ (0, lasts.Ran (kind_of form_feed), sheet_of page ∷ [])
+    ∷ (0, lasts.Refused (kind_of form_feed) refusals.Overlay, sheet_of page ∷ [])
     ∷ []
 
 abbrev overlay_dots : Page → Page
@@ -431,7 +435,7 @@ unfolding trace_each trace_at
 overlay_under_the_exit = second_macro_is_found four_dots
 
 abbrev exit_items : List StepResult
-exit_items = begun_items (inside_of (trace_at 1)) (begun_close (Some four_dots) exit_closes (with_state dropped (taken Uel in_definition)))
+exit_items = begun_items (inside_of (trace_at 1)) (begun_close (Some four_dots) exit_closes (with_state dropped (taken sources.Stream Uel in_definition)))
 
 exit_gives : trace_at 2 Uel in_definition ≡ exit_items
 exit_gives =
@@ -481,7 +485,7 @@ abbrev ready : Machine
 ready = last_machine power_on (trace deleting_defined power_on)
 
 abbrev executed_items : List StepResult
-executed_items = outside_items 1 (taken execute ready) (Starts deleting ends.Execute ready.state)
+executed_items = outside_items 1 (taken sources.Stream execute ready) (Starts deleting ends.Execute ready.state)
 
 abbrev deleted : Machine
 deleted = last_machine ready executed_items
@@ -496,14 +500,14 @@ second_changes = ap (λ found. start_body found ends.Execute deleted.state) (mac
 
 first_execute : trace_at 2 execute ready ≡ executed_items
 unfolding trace_at
-first_execute = ap (outside_items 1 (taken execute ready)) execute_starts
+first_execute = ap (outside_items 1 (taken sources.Stream execute ready)) execute_starts
 
-second_execute : trace_at 2 execute deleted ≡ silent (taken execute deleted) ∷ []
+second_execute : trace_at 2 execute deleted ≡ silent (taken sources.Stream execute deleted) ∷ []
 unfolding trace_at
-second_execute = ap (outside_items 1 (taken execute deleted)) second_changes
+second_execute = ap (outside_items 1 (taken sources.Stream execute deleted)) second_changes
 
 abbrev after_deletion : List StepResult
-after_deletion = executed_items ++ (silent (taken execute deleted) ∷ trace_each (trace_at 2) page_and_exit (taken execute deleted))
+after_deletion = executed_items ++ (silent (taken sources.Stream execute deleted) ∷ trace_each (trace_at 2) page_and_exit (taken sources.Stream execute deleted))
 
 items_of_deletion : trace (deleting_defined ++ (execute ∷ execute ∷ page_and_exit)) power_on ≡ trace deleting_defined power_on ++ after_deletion
 items_of_deletion =

@@ -16,7 +16,7 @@ pub kind-requires : goal.kind-requires
 kind-requires c =
     let runs = c.in-Ok.ensures.runs in
     let goes = runs.goes in
-    taken-last goes.command runs.between c.run_inner.new.self.last
+    taken-last _ goes.command runs.between c.run_inner.new.self.last
     (ap (λ (stepped : Stepped). stepped.item.machine.last) runs.steps ∙ step-last (taking_in goes.activation goes.command runs.between) (record goes.activation { body = goes.rest } ∷ goes.outer))
 
 pub invariant_of-self : goal.invariant_of-self

@@ -1,5 +1,6 @@
 use Rattle.std.proofs.Common.{◌∙◌, [], false, arith, sym, ap, subst, reverse}
 use Rattle.press_cmd.specs.View.{token}
+use Rattle.press_table.specs.declared.effect.Source.TheVariants.{Stream}
 use Rattle.press_engine.specs.Engine.{IsOfKind}
 use Rattle.press_engine.specs.Machine.{macro_levels}
 use Rattle.press_engine.specs.Stepping.{Stepped, step_outer}
@@ -19,6 +20,6 @@ returns-in-Ok-clause-steps c =
     let old = c.args.machine.now in
     let steps = c.in-Ok.ensures.steps in
     let last = ap (λ (stepped : Stepped). stepped.item.machine.last) steps ∙ step-last (taking false macro_levels command old) [] in
-    let of_kind = subst (IsOfKind c.step_outer.new.self.last) (sym c.kind-kind.ensures) (last-kind command old c.step_outer.new.self.last last) in
+    let of_kind = subst (IsOfKind c.step_outer.new.self.last) (sym c.kind-kind.ensures) (last-kind Stream command old c.step_outer.new.self.last last) in
     steps-to (trace_at macro_levels command old) (step_outer command old) c.kind-kind.result c.in-Ok.sent c.step_outer.new.self
     (reverse c.step_outer.new.activations.items) (outer-continuation command old) steps of_kind

@@ -14,7 +14,7 @@ kind-requires c =
     let some : activations ≢ [] = λ none. c.requires.running (sym c.self.view_is ∙ none) in
     let (activation, command, rest, outer, is) = ready-some activations c.self.invariant.ready some in
     let steps = c.in-Ok.ensures.steps activation command rest outer is in
-    taken-last command c.args.machine.now c.step_inner.new.self.last (ap (λ (stepped : Stepped). stepped.item.machine.last) steps ∙ step-last (taking_in activation command c.args.machine.now) (record activation { body = rest } ∷ outer))
+    taken-last _ command c.args.machine.now c.step_inner.new.self.last (ap (λ (stepped : Stepped). stepped.item.machine.last) steps ∙ step-last (taking_in activation command c.args.machine.now) (record activation { body = rest } ∷ outer))
 
 pub invariant_of-self : goal.invariant_of-self
 invariant_of-self c =
