@@ -6,11 +6,7 @@ use Rattle.serde_json.specs.Data.{Data, object, Members, no_members}
 use Rattle.serde_json.specs.Written.{compact_text}
 use Rattle.press_engine.specs.declared.view.View.{View}
 use Rattle.press_trace.specs.declared.fields.Field.{Field}
-use Rattle.press_trace.specs.declared.fields.Field.TheVariants as fields
 use Rattle.press_trace.specs.declared.fields.Group.{Group}
-use Rattle.press_trace.specs.declared.fields.Group.TheVariants as groups
-use Rattle.press_trace.specs.declared.fields.Variable.{Variable}
-use Rattle.press_trace.specs.declared.fields.Variable.TheVariants as variables
 use Rattle.press_trace.specs.Fields.{key_of, told_by, group_word, fields_of, all_groups}
 use Rattle.press_trace.specs.Lines.{view_object}
 use Rattle.press_trace.specs.Seen.{is_told, told_fields, told_groups, view_told, object_if, put_some, tells_some, field_slot, group_told, group_slot}

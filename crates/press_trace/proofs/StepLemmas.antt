@@ -20,6 +20,7 @@ use Rattle.press_engine.specs.Engine.{IsOfKind, view_of}
 use Rattle.press_engine.specs.Machine.{StepResult, carried, last_of, macro_levels}
 use Rattle.press_table.specs.PageKept.{KeepsOtherLines, kind_may_change_page, kind_transfers_rows, most_dot_lines, row_line}
 use Rattle.press_table.specs.Refusals.{refusal_of}
+use Rattle.press_table.specs.declared.effect.Source.TheVariants.{Stream}
 use Rattle.press_table.specs.declared.refusal.Refusal.{Refusal}
 use Rattle.press_table.specs.declared.state.State.{State}
 use Rattle.press_engine.specs.PageKept.{TakesFirst, OthersKeepThePage, RowsKeepOtherLines}
@@ -158,8 +159,8 @@ first_of : OthersKeepThePage
 first_of law old new item kind does command is idle =
     let owes : trace_at macro_levels command does.from ≡ item ∷ continuation new.bodies item.machine =
     sym (left-one command does.from) ∙ (λ i. left (sym is i) (sym idle i) does.from) ∙ does.are in
-    let took : item.machine.last ≡ last_of command does.from.state = subst (TakesFirst (last_of command does.from.state)) owes (law.takes command does.from) in
-    (kind_taken (is_recorded command does.from.state) (refusal_of command does.from.state) command kind (subst (λ (last : Last). IsOfKind last kind) took does.is_kind), owes)
+    let took : item.machine.last ≡ last_of Stream command does.from.state = subst (TakesFirst (last_of Stream command does.from.state)) owes (law.takes command does.from) in
+    (kind_taken (is_recorded command does.from.state) (refusal_of Stream command does.from.state) command kind (subst (λ (last : Last). IsOfKind last kind) took does.is_kind), owes)
 
 -- a command of the stream of a kind that changes no page
 command_keeps : OthersKeepThePage

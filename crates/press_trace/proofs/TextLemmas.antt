@@ -1,8 +1,8 @@
 -- Texts of JSON in which nothing is escaped.
-use Rattle.std.proofs.Common.{◌≡◌, ◌∙◌, ◌==◌, ◌<◌, ◌≤◌, ◌/◌, ◌%◌, ◌++◌, ℕ, suc, List, [], ◌∷◌, true, not, get_or, length, slice_index, refl, sym, ap, append_assoc, append-nil, add-one, arith, drop, ◌+◌, encode_utf8, true≢false}
+use Rattle.std.proofs.Common.{◌≡◌, ◌∙◌, ◌<◌, ◌≤◌, ◌/◌, ◌%◌, ◌++◌, ℕ, suc, List, [], ◌∷◌, true, get_or, length, slice_index, refl, sym, ap, append_assoc, append-nil, add-one, arith, drop, ◌+◌, encode_utf8}
 use Rattle.std.specs.Prelude.{nat_lt}
 use Rattle.std.specs.List.{list_all}
-use Rattle.std.proofs.lemmas.Bool.{and_parts, ltb-true, le-ltb, eq-eqb}
+use Rattle.std.proofs.lemmas.Bool.{and_parts, ltb-true, le-ltb}
 use Rattle.std.proofs.Math.Seq.{drop-cons}
 use Rattle.std.proofs.lemmas.List.{drop_all}
 use Rattle.std.proofs.lemmas.Str.{encode_ascii}

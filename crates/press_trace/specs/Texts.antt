@@ -14,6 +14,7 @@ text_of = flat_map encode_utf8
 -- the words of a reason why a command is refused
 abbrev pub refusal_word : Refusal → List ℕ
 refusal_word refusals.HpGl = codes "HP-GL/2"
+refusal_word refusals.Overlay = codes "overlay"
 refusal_word refusals.NoRow = codes "no row"
 refusal_word refusals.NoSuchValue = codes "no such value"
 

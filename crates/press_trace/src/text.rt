@@ -25,6 +25,7 @@ fn refusal_word(refusal: Refusal) -> &'static [u8]
 {
     match refusal {
         Refusal::HpGl => b"HP-GL/2",
+        Refusal::Overlay => b"overlay",
         Refusal::NoRow => b"no row",
         Refusal::NoSuchValue => b"no such value",
     }

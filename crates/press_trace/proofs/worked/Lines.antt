@@ -208,7 +208,7 @@ the_lines_of_the_overlay :
     ∷ codes "{\"at\":27,\"bytes\":1,\"depth\":1,\"last\":\"par *cA\",\"sheets\":0,\"step\":10,\"view\":{\"drawing\":{\"width\":96}},\"x\":0,\"y\":900}"
     ∷ codes "{\"at\":27,\"bytes\":1,\"depth\":1,\"last\":\"par *cB\",\"sheets\":0,\"step\":11,\"view\":{\"drawing\":{\"height\":24}},\"x\":0,\"y\":900}"
     ∷ codes "{\"at\":27,\"bytes\":1,\"depth\":1,\"last\":\"par *cP\",\"opened\":[2550,3300],\"page\":{\"height\":1,\"rows\":[\"1E\"],\"width\":8,\"x\":72,\"y\":187},\"sheets\":0,\"step\":12,\"view\":{\"page\":{\"marked\":true}},\"x\":0,\"y\":900}"
-    ∷ codes "{\"at\":27,\"bytes\":1,\"delivered\":1,\"depth\":0,\"last\":\"ctl 0C\",\"page\":null,\"sheets\":1,\"step\":13,\"view\":{\"drawing\":{\"height\":0,\"width\":0},\"macros\":{\"id\":2},\"page\":{\"marked\":false},\"settings\":{\"sheets_of_job\":1}},\"x\":0,\"y\":900}"
+    ∷ codes "{\"at\":27,\"bytes\":1,\"delivered\":1,\"depth\":0,\"last\":\"ctl 0C\",\"page\":null,\"refused\":\"overlay\",\"sheets\":1,\"step\":13,\"view\":{\"drawing\":{\"height\":0,\"width\":0},\"macros\":{\"id\":2},\"page\":{\"marked\":false},\"settings\":{\"sheets_of_job\":1}},\"x\":0,\"y\":900}"
     ∷ codes "{\"at\":28,\"bytes\":0,\"depth\":0,\"last\":\"uel\",\"sheets\":1,\"step\":14,\"view\":{\"macros\":{\"id\":0,\"overlay\":null}},\"x\":0,\"y\":900}"
     ∷ []
 unfolding trace_each trace_at trace_in_overlay digits serde_json_on_literals hex_on_literals
