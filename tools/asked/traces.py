@@ -23,7 +23,7 @@ POWER_ON = {
 
 
 # Why a command has no effect.
-NO_ROW, NO_VALUE, IN_HPGL = ({"refused": why} for why in ("no row", "no such value", "HP-GL/2"))
+NO_ROW, NO_VALUE, IN_HPGL, IN_OVERLAY = ({"refused": why} for why in ("no row", "no such value", "HP-GL/2", "overlay"))
 
 
 def lines_of(*steps):
@@ -485,7 +485,7 @@ IN_BODY = asked(
     (43, 5, "par &fX", NO_VALUE | {"depth": 0}),
     (48, 0, "uel", {"view": {"macros": {"id": 0}}}),
 )
-# What would close the page in an overlay has no effect there, and is refused for its value alone.
+# What would close the page in an overlay has no effect there, and is refused, whether its row names the value or not.
 OVERLAY = asked(
     b"\x1b&f2y0X\x0c\x1b&l2a9a0o4o0s3s0H\x1b&a0g3G\x07\x1b&f1x4X\x0c",
     (0, 5, "par &fY", {"view": {"macros": POWER_ON["macros"] | {"id": 2}}}),
@@ -496,18 +496,93 @@ OVERLAY = asked(
     (33, 5, "par &fX", {"view": {"macros": {"defining": None}}}),
     (38, 2, "par &fX", {"view": {"macros": {"overlay": 2}}}),
     (40, 1, "ctl 0C", {"depth": 1, "view": {"macros": {"id": 0}}}),
-    (40, 1, "ctl 0C", {}),
-    (40, 1, "par &lA", {}),
-    (40, 1, "par &lA", NO_VALUE),
-    (40, 1, "par &lO", {}),
-    (40, 1, "par &lO", NO_VALUE),
-    (40, 1, "par &lS", {}),
-    (40, 1, "par &lS", NO_VALUE),
-    (40, 1, "par &lH", {}),
-    (40, 1, "par &aG", {}),
-    (40, 1, "par &aG", NO_VALUE),
+    *((40, 1, last, IN_OVERLAY) for last in ("ctl 0C", "par &lA", "par &lA", "par &lO", "par &lO", "par &lS", "par &lS", "par &lH", "par &aG", "par &aG")),
     (40, 1, "ctl 07", NO_ROW | {"delivered": 1, "depth": 0, "sheets": 1, "view": {"macros": {"id": 2}, "settings": {"sheets_of_job": 1}}}),
     (41, 0, "uel", {"view": {"macros": {"id": 0, "overlay": None}}}),
+)
+
+
+def recorded(number, body, at):
+    """The steps in which a macro of this number is recorded from a place on, the bytes that spell this, and what is told of each command when it runs."""
+    stream = b"\x1b&f%dy0X" % number
+    steps = [(at, len(stream) - 2, "par &fY", {"view": {"macros": {"id": number}}}), (at + len(stream) - 2, 2, "par &fX", {"view": {"macros": {"defining": number}}})]
+    for command, kind, _ in body:
+        steps.append((at + len(stream), len(command), kind, {"recorded": True}))
+        stream += command
+    steps.append((at + len(stream), 5, "par &fX", {"view": {"macros": {"defining": None}}}))
+    return steps, stream + b"\x1b&f1X", [(kind, told) for _, kind, told in body]
+
+
+def run_by(at, size, ran):
+    """The steps of a body that a command starts."""
+    return [(at, size, kind, told) for kind, told in ran]
+
+
+def told(why, *commands):
+    """Commands of a body of which the same is told: control characters and text as they stand, others behind their escape character."""
+    return [(command.encode(), "txt" if command >= " " else "ctl %02X" % ord(command), why) if len(command) == 1 else
+            (b"\x1b" + command.encode(), "par " + command[0] + command[1:2].strip("0123456789") + command[-1], why) for command in commands]
+
+
+def overlaid(*body):
+    """An overlay under a page that a form feed closes; the last command changes no field."""
+    steps, stream, ran = recorded(2, body, 0)
+    steps[0] = (*steps[0][:3], {"view": {"macros": POWER_ON["macros"] | {"id": 2}}})
+    at, (kind, why) = len(stream) + 5, ran[-1]
+    return asked(
+        stream + b"\x1b&f4X\x0c", *steps, (at - 5, 5, "par &fX", {"view": {"macros": {"overlay": 2}}}), (at, 1, "ctl 0C", {"depth": 1, "view": {"macros": {"id": 0}}}),
+        *run_by(at, 1, ran[:-1]), (at, 1, kind, why | {"delivered": 1, "depth": 0, "sheets": 1, "view": {"macros": {"id": 2}, "settings": {"sheets_of_job": 1}}}),
+        (at + 1, 0, "uel", {"view": {"macros": {"id": 0, "overlay": None}}}))
+
+
+# The six rows that have no effect there, by values that they name and by others, a command each.
+CLOSERS = ["\f", "&l2A", "&l4A", "&l0O", "&l4O", "&l0S", "&l3S", "&l0H", "&a0G", "&a3G"]
+EVERY_VALUE = overlaid(*told(
+    IN_OVERLAY, "\f", *(f"&l{value}A" for value in (1, 2, 3, 6, 26, 27, 0, 4, 9, 28, -1)), *(f"&l{value}O" for value in (0, 1, 2, 3, 4, -1)),
+    *(f"&l{value}S" for value in (0, 1, 2, 3, -1)), *(f"&l{value}H" for value in (0, 1, 9, -1)), *(f"&a{value}G" for value in (0, 1, 2, 3, -1))))
+# What has no row, and a value that another row does not name, are told as elsewhere; a command that has its effect, or finds nothing to do, is not refused.
+OTHERS_IN_OVERLAY = overlaid(
+    *told(NO_ROW, "a", "\a", "&l1Z", "&a1Z"), (b"\x1bZ", "esc Z", NO_ROW), (b"\x1b*p", "brk", NO_ROW), *told(NO_ROW, "\x01"),
+    *told(NO_VALUE, "&k4G", "&l5D", "&l2L", "&l0X", "&a99L", "&f11X", "*v2N"), *told({}, "\r", "&l1L", "&l1X", "&a0C", "&f0X", "&f9X"), *told(IN_OVERLAY, "\f"))
+# While HP-GL/2 is on it is the reason, whatever stands there.
+PLOT_IN_OVERLAY = overlaid(
+    *told(settings(hp_gl=True), "%0B"), *told(IN_HPGL, *CLOSERS, "a", "&l1Z", "&k4G", "&l1X"), *told(settings(hp_gl=False), "%0A"), *told(IN_OVERLAY, *CLOSERS))
+# A macro of an overlay is a part of it, whether it is executed or called.
+OF_MACRO, MACRO, IN_MACRO = recorded(3, told(IN_OVERLAY, *CLOSERS) + told(NO_ROW, "a"), 0)
+OF_OVERLAY, LAID_OVER, _ = recorded(2, [(b"\x1b&f3y", "par &fY", {}), (b"2x", "par &fX", {}), (b"3X", "par &fX", {}), *told({}, "\f")], len(MACRO))
+CLOSE = len(MACRO + LAID_OVER) + 5
+MACRO_IN_OVERLAY = asked(
+    MACRO + LAID_OVER + b"\x1b&f4X\x0c",
+    (*OF_MACRO[0][:3], {"view": {"macros": POWER_ON["macros"] | {"id": 3}}}), *OF_MACRO[1:], *OF_OVERLAY,
+    (CLOSE - 5, 5, "par &fX", {"view": {"macros": {"overlay": 2}}}),
+    (CLOSE, 1, "ctl 0C", {"depth": 1, "view": {"macros": {"id": 0}}}),
+    (CLOSE, 1, "par &fY", {"view": {"macros": {"id": 3}}}),
+    *2 * [(CLOSE, 1, "par &fX", {"depth": 2}), *run_by(CLOSE, 1, IN_MACRO[:-1]), (CLOSE, 1, "txt", NO_ROW | {"depth": 1})],
+    (CLOSE, 1, "ctl 0C", IN_OVERLAY | {"delivered": 1, "depth": 0, "sheets": 1, "view": {"macros": {"id": 2}, "settings": {"sheets_of_job": 1}}}),
+    (CLOSE + 1, 0, "uel", {"view": {"macros": {"id": 0, "overlay": None}}}),
+)
+# Outside of it the same commands have their effect, or the reasons that they have elsewhere, though an overlay is on: in the stream, and in a macro behind the page
+# that it closed, where the page size puts the overlay off.
+OUTSIDE = ["&l0S", "&l0H", "&a0G", "&a1G"]
+OF_OTHER, OTHER, IN_OTHER = recorded(3, told({}, "\f", *OUTSIDE) + told(NO_VALUE, "&l4A") + told(NO_ROW, "&l1Z") + told({"view": {"macros": {"overlay": None}}}, "&l2A") + told({}, "&l0O"), 0)
+OF_TEXT, TEXT, _ = recorded(2, told({}, "a"), len(OTHER))
+ON = len(OTHER + TEXT)
+OVERLAY_ON = asked(
+    OTHER + TEXT + b"\x1b&f4X\x0c\x1b&l0S\x1b&l0H\x1b&a0G\x1b&l4A\x1b&l4O\x1b&l3S\x1b&a3G\x1b&l1Za\x1b&f3y2X",
+    (*OF_OTHER[0][:3], {"view": {"macros": POWER_ON["macros"] | {"id": 3}}}), *OF_OTHER[1:], *OF_TEXT,
+    (ON, 5, "par &fX", {"view": {"macros": {"overlay": 2}}}),
+    (ON + 5, 1, "ctl 0C", {"depth": 1, "view": {"macros": {"id": 0}}}),
+    (ON + 5, 1, "txt", NO_ROW | {"delivered": 1, "depth": 0, "sheets": 1, "view": {"macros": {"id": 2}, "settings": {"sheets_of_job": 1}}}),
+    *((ON + 6 + 5 * number, 5, kind, why) for number, (kind, why) in enumerate((
+        ("par &lS", {}), ("par &lH", {}), ("par &aG", {}), ("par &lA", NO_VALUE), ("par &lO", NO_VALUE), ("par &lS", NO_VALUE), ("par &aG", NO_VALUE), ("par &lZ", NO_ROW)))),
+    (ON + 46, 1, "txt", NO_ROW),
+    (ON + 47, 5, "par &fY", {"view": {"macros": {"id": 3}}}),
+    (ON + 52, 2, "par &fX", {"depth": 1}),
+    (ON + 52, 2, "ctl 0C", {"depth": 2, "view": {"macros": {"id": 0}}}),
+    (ON + 52, 2, "txt", NO_ROW | {"delivered": 1, "depth": 1, "sheets": 2, "view": {"macros": {"id": 3}, "settings": {"sheets_of_job": 2}}}),
+    *run_by(ON + 52, 2, IN_OTHER[1:-1]),
+    (ON + 52, 2, "par &lO", {"depth": 0}),
+    (ON + 54, 0, "uel", {"view": {"macros": {"id": 0}}}),
 )
 
 REFUSED = [
@@ -516,4 +591,4 @@ REFUSED = [
 ]
 
 ROWS = [EMPTY, BOX, MARKS, BODY, BROKEN, REPLIES, CONTROLS, DRAWING, LINES, ROWS_OF_RASTER, MEDIA, VARIABLES_SET, COUNTS, *TURNED, SET, RUNS, PLOT, LANGUAGE, RECORDED, PIECES,
-        MOTIONS, MARGINS, SHEETS, RASTER, FINE, PATTERNS, MACROS, SKIPPED, IN_BODY, OVERLAY, *REFUSED]
+        MOTIONS, MARGINS, SHEETS, RASTER, FINE, PATTERNS, MACROS, SKIPPED, IN_BODY, OVERLAY, EVERY_VALUE, OTHERS_IN_OVERLAY, PLOT_IN_OVERLAY, MACRO_IN_OVERLAY, OVERLAY_ON, *REFUSED]

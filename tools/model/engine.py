@@ -13,7 +13,7 @@ from .state import GREATEST_COUNT, State
 
 RECORDED = "recorded"
 # Why a command that is not recorded is refused: the first of these that holds before its step.
-IN_HPGL, NO_ROW, NO_SUCH_VALUE = "HP-GL/2", "no row", "no such value"
+IN_HPGL, IN_OVERLAY, NO_ROW, NO_SUCH_VALUE = "HP-GL/2", "overlay", "no row", "no such value"
 
 
 class Deliver(NamedTuple):
@@ -70,18 +70,19 @@ class Engine:
         self.kind = kind(command)
         self.last = self.kind
         self.refused = None
+        row = table.row_of(command)
         if self.state.defining is not None and not ends_or_passes_definition(command):
             self.last = RECORDED
             self.state.definition.append(command)
-        elif not self.state.hpgl or passes_hpgl(command):
-            row = table.row_of(command)
-            if row is not None:
-                self.row_counts[row.name] = self.row_counts.get(row.name, 0) + 1
-                yield from row.effect(self, command) or ()
-            else:
-                self.refused = NO_ROW
-        else:
+        elif self.state.hpgl and not passes_hpgl(command):
             self.refused = IN_HPGL
+        elif self.in_overlay and table.is_skipped_in_overlay(row):
+            self.refused = IN_OVERLAY
+        elif row is None:
+            self.refused = NO_ROW
+        else:
+            self.row_counts[row.name] = self.row_counts.get(row.name, 0) + 1
+            yield from row.effect(self, command) or ()
 
     def names(self, named):
         """Whether the row names the command's value, as it says itself; if not, the command is refused."""

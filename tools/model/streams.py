@@ -77,6 +77,8 @@ PJL_PAIRS = [
     (b"FOO", [b"1"]),
 ]
 SET_PAIRS = PJL_PAIRS + [(b"RESOLUTION", [b"600", b"600", b"600", b"300", b"0600", b"601", b"600.0", b"1200"])] * 5
+# Commands that close a page, or may, and have no effect in an overlay; some of a value that is not named.
+CLOSERS = [b"\x0c", *(ESC + each for each in (b"&l0H", b"&l2A", b"&l9A", b"&l0O", b"&l4O", b"&l0S", b"&l3S", b"&a0G", b"&a3G"))]
 
 
 class Maker:
@@ -109,7 +111,7 @@ class Maker:
             (2, self.exit_and_lines), (8, self.probe), (2, self.hpgl), (3, self.stacked), (3, self.motion_then_lines),
             (3, self.margins), (3, self.two_sided), (14, self.raster), (4, self.raster_over), (8, self.patterned),
             (2, self.lasting_pattern), (12, self.macro), (2, self.lasting_macro), (2, self.call_over_pages),
-            (2, self.call_over_top_margins), (8, self.exit_and_lines), (5, self.other_resolution), (14, self.adaptive),
+            (2, self.call_over_top_margins), (2, self.overlay_of_closers), (8, self.exit_and_lines), (5, self.other_resolution), (14, self.adaptive),
         ]
         if self.in_body and not self.chance(0.02):
             makers = [(weight, call) for weight, call in makers if call not in (self.exit_and_lines, self.other_resolution)]
@@ -519,6 +521,14 @@ class Maker:
                  b"&f7y%dX" % self.random.choice([2, 3, 3, 3])]
         return b"".join(ESC + part for part in parts if part) + self.shown_cursor()
 
+    def overlay_of_closers(self):
+        """What closes no page in an overlay, in its own body or in a macro that it runs, and a page that closes over it."""
+        body = b"".join(self.random.choices([*CLOSERS, b"a", ESC + b"%0B", ESC + b"%0A"], k=5))
+        macro = ESC + b"&f8y0X" + body + ESC + b"&f1X"
+        if self.chance(0.5):
+            body = ESC + b"&f8y%dX" % self.random.choice([2, 3])
+        return macro + ESC + b"&f9y0X" + body + ESC + b"&f1x4X" + self.box() + b"\x0c"
+
     def body_pieces(self, most):
         outside, self.in_body = self.in_body, True
         body = b"".join(self.piece() for _ in range(self.random.randint(0, most)))
@@ -552,8 +562,8 @@ class Maker:
             body = self.body_pieces(2)
             if following and self.chance(0.9):
                 body += ESC + b"&f%dy%dX" % (following, self.random.choice([2, 3]))
-            if number in (2, 3) and self.chance(0.5):
-                body += self.random.choice([b"\x0c", ESC + b"&l0H", ESC + b"&l2A", ESC + b"&a0G", ESC + b"&l0O"])
+            if number != 1 and self.chance(0.5):
+                body += self.random.choice(CLOSERS)
             body += self.body_pieces(1)
             parts.append(ESC + b"&f%dy0X" % number + body + ESC + b"&f1X")
         if self.chance(0.8):

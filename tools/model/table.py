@@ -73,8 +73,6 @@ def down_or_close(engine, distance):
 
 def form_feed(engine, _command):
     state = engine.state
-    if engine.in_overlay:
-        return
     if state.line_termination in (2, 3):
         to_left_margin(state)
     yield from engine.close_page()
@@ -235,7 +233,7 @@ def right_margin(engine, command):
 # Pages
 
 def page_size(engine, command):
-    if not engine.names(number(command) in PAGE_SIZES) or engine.in_overlay:
+    if not engine.names(number(command) in PAGE_SIZES):
         return
     yield from engine.close_if_marked()
     engine.deliver_pending_front()
@@ -244,7 +242,7 @@ def page_size(engine, command):
 
 
 def orientation(engine, command):
-    if not engine.names(number(command) in (0, 1, 2, 3)) or engine.in_overlay:
+    if not engine.names(number(command) in (0, 1, 2, 3)):
         return
     yield from engine.close_if_marked()
     engine.state.orientation = number(command)
@@ -259,7 +257,7 @@ def new_logical_page(state):
 
 
 def sides(engine, command):
-    if not engine.names(number(command) in (0, 1, 2)) or engine.in_overlay:
+    if not engine.names(number(command) in (0, 1, 2)):
         return
     state = engine.state
     yield from engine.close_if_marked()
@@ -271,8 +269,6 @@ def sides(engine, command):
 
 
 def eject(engine, _command):
-    if engine.in_overlay:
-        return
     yield from close_marked_page(engine)
 
 
@@ -284,7 +280,7 @@ def close_marked_page(engine):
 
 
 def side_selection(engine, command):
-    if not engine.names(number(command) in (0, 1, 2)) or engine.in_overlay:
+    if not engine.names(number(command) in (0, 1, 2)):
         return
     state = engine.state
     yield from close_marked_page(engine)
@@ -525,6 +521,12 @@ UEL = Row("UEL", leave)
 PJL_LINE = Row("PJL", pjl_line)
 
 EVERY_ROW = [*CONTROLS.values(), *ESCAPES.values(), *PARAMS.values(), FILL_BLACK, FILL_PATTERN, UEL, PJL_LINE]
+SKIPPED_IN_OVERLAY = ("FF", "&lA", "&lO", "&lS", "&lH", "&aG")  # no page closes there
+
+
+def is_skipped_in_overlay(row):
+    """Whether a row, or None, has no effect for a command that comes from an overlay, whatever its value."""
+    return row is not None and row.name in SKIPPED_IN_OVERLAY
 
 
 def row_of(command):

@@ -4,6 +4,7 @@ import random
 
 from asked import leaves
 from model import pages, runs, table, trace_lines
+from model.engine import IN_OVERLAY
 from seen import effects
 
 FIELDS = ["unit", "vmi", "hmi", "line_termination", "perforation_skip", "copies", "raster_resolution", "method", "source_width", "source_height",
@@ -51,11 +52,14 @@ def spoil(state, field):
 
 
 def spoiled(row, field):
-    """A row of the table that gives a field another value behind its effect."""
+    """A row of the table that gives a field another value behind its effect, also where an overlay skips it."""
     def effect(engine, command):
-        yield from row.effect(engine, command) or ()
+        if engine.in_overlay and table.is_skipped_in_overlay(row):
+            engine.refused = IN_OVERLAY
+        else:
+            yield from row.effect(engine, command) or ()
         spoil(engine.state, field)
-    return row._replace(effect=effect)
+    return row._replace(name=f"{row.name}, and {field}", effect=effect)
 
 
 def row_names():

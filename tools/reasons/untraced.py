@@ -490,7 +490,7 @@ REASONS = [
 ]
 BY_NAME = {reason.name: reason for reason in REASONS}
 ORDER = {reason.name: place for place, reason in enumerate(REASONS)}
-BY_HOW = {how: [reason for reason in REASONS if reason.how in (how, "any")] for how in ("row", "no row", NO_SUCH_VALUE, "HP-GL/2")}
+BY_HOW = {how: [reason for reason in REASONS if reason.how in (how, "any")] for how in ("row", "no row", NO_SUCH_VALUE, "HP-GL/2", "overlay")}
 # What a command without a row may meet of a kind of which streams have thousands.
 BY_KIND = {("no row", kind): [BY_NAME[name] for name in some] for kind, some in {
     Foreign: ["another language"], Text: ["what is left of a command", "text"],

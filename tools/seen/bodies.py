@@ -48,7 +48,7 @@ class Step(NamedTuple):
 
 
 def how_of(line):
-    """How the command of a line went: "row", "recorded", or why it was refused: "no row", "no such value", "HP-GL/2"."""
+    """How the command of a line went: "row", "recorded", or why it was refused: "HP-GL/2", "overlay" (in a body alone), "no row", "no such value"."""
     return "recorded" if "recorded" in line else line.get("refused", "row")
 
 

@@ -12,7 +12,7 @@ from typing import NamedTuple, Optional
 from model import commands
 
 from . import program, traced
-from .bodies import Body, Follower, Placed, Step
+from .bodies import Body, Follower, Placed, Step, how_of
 from .fields import Fields, Now, power_on
 from .happenings import of_step
 from .opened import Opened
@@ -294,6 +294,10 @@ class Film:
         """The command that this step takes, counted from 1."""
         entry = self.entry(count)
         return entry.step.placed if entry.step is not None else placed_in_run(self.whole, entry.line, count - entry.first)
+
+    def how(self, count):
+        """How that command went, as bodies.how_of tells it."""
+        return how_of(self.line(count))
 
     def kind(self, count):
         """The kind of that command; None behind 0 steps."""

@@ -90,4 +90,4 @@ def is_past(before, distance):
 def asks_for_back(step):
     """Whether a command asks for the back of a leaf, for which a blank front is then put."""
     return (step.how == "row" and letters(step.placed.command) == "&aG" and step.placed.command.value().whole() == BACK_SIDE
-            and step.after["duplex"] and not in_overlay(step))
+            and step.after["duplex"])

@@ -1,7 +1,7 @@
 "use strict";
 // The page: what was chosen, the line of time, the list and the pane of fields. The canvas is in paper.js.
 
-const LEAP = 100, PLAY_MOST = 40, NARROW = 420;
+const LEAP = 100, PLAY_MOST = 40, NARROW = 420, OVERLAID = 64;    // the last is the flag of a command that an overlay skips
 const film = new Film(data);
 const state = {entry: -1, from: -1, side: -1, playing: 0, shown: [], here: -1, drawn: 0};
 
@@ -131,7 +131,8 @@ async function tellCommand(token) {
   if (token !== state.drawn) return;
   const {title, cause, what, effect} = partsOf(row), head = [element("code", {}, title), ...cause ? [element("em", {}, cause)] : [], ` ${what}${what && ", "}at ${row[1]}`];
   const parts = [element("div", {}, ...head), element("div", {}, effect), element("div", {class: "text"}, element("code", {}, row[0]))];
-  if (body) parts.unshift(element("div", {}, `In ${film.data.stacks[film.stack[entry]].at(-1)[0]}: `, element("code", {}, body[0]), " recorded " + remarkOf(body)),
+  if (body) parts.unshift(element("div", {}, `In ${film.data.stacks[film.stack[entry]].at(-1)[0]}: `, element("code", {}, body[0]), " recorded " + remarkOf(body),
+    film.flags[entry] & OVERLAID ? `; ${film.data.overlaid}` : ""),
     element("div", {class: "soft"}, "which was started by"));
   told.replaceChildren(...parts);
   told.scrollTop = 0;

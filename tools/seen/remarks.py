@@ -229,6 +229,7 @@ def deeds(happening, pattern_id):
 
 NOTHING = {Text: "no row: text leaves no marks", Foreign: "skipped, up to the next universal exit",
            Broken: "no row: ignored"}
+IGNORED = {"HP-GL/2": "ignored: HP-GL/2 is on", "overlay": "ignored: an overlay closes no page"}    # commands that are skipped, by why
 
 
 def effect_of(happening, pattern_id=0, because=""):
@@ -236,14 +237,19 @@ def effect_of(happening, pattern_id=0, because=""):
     command = happening.placed.command
     if happening.how == "recorded":
         return f"recorded, in macro {happening.recorded_in}"
-    if happening.how == "HP-GL/2":
-        return "ignored: HP-GL/2 is on"
-    if happening.how == "no row":
-        return f"no row: {because}" if because else NOTHING.get(type(command), "no row: ignored")
+    if happening.how == "no row" and because:
+        return f"no row: {because}"
+    if skipped := skipped_by(happening.how, command):
+        return skipped
     told = deeds(happening, pattern_id)
     if not told and not because and isinstance(command, PjlLine):
         return line_without_change(command)
     return "; ".join(told or ["changes nothing"]) + (f": {because}" if because and not told else f"; {because}" if because else "")
+
+
+def skipped_by(how, command):
+    """Why a command is passed over, as bodies.how_of tells it; empty where its row is asked."""
+    return NOTHING.get(type(command), "no row: ignored") if how == "no row" else IGNORED.get(how, "")
 
 
 def line_without_change(command):
@@ -330,7 +336,7 @@ def of_run(happenings, data, because=""):
     """The remark on several commands, one after another, whose bytes are these."""
     first, last, count = happenings[0], happenings[-1], sum(happening.placed.count() for happening in happenings)
     if first.how == "HP-GL/2":
-        what, effect = plural(count, "command"), "ignored: HP-GL/2 is on"
+        what, effect = plural(count, "command"), IGNORED[first.how]
     elif isinstance(first.placed.command, Foreign):
         what, effect = f"{plural(count, 'byte')} of another language", NOTHING[Foreign]
     else:

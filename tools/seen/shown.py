@@ -119,7 +119,8 @@ class Recorder:
             stack = tuple((body.name(), body.starter.offset) for body in step.stack)
         now = run.fields.now
         self.keep(now, [line["step"]], [now.x], [now.y], step.placed.offset if stack else NONE, stack)
-        self.flags.append(line["depth"] + 8 * ("delivered" in line) + 16 * ("reply" in line) + 32 * ("recorded" in line))
+        self.flags.append(line["depth"] + 8 * ("delivered" in line) + 16 * ("reply" in line) + 32 * ("recorded" in line)
+                          + 64 * (line.get("refused") == "overlay"))
         if "reply" in line:
             self.replies.append([entry, remarks.readable(line["reply"].encode("latin-1"), 400)])
         self.keep_fields(run, as_json(line["view"]) if "view" in line else "0")
@@ -333,7 +334,7 @@ def data_of(stream, front, chosen, name):
         "replies": recorder.replies,
         "start": happenings.power_on(chosen)["view"],
         "findings": findings,
-        "words": remarks.field_words(),
+        "words": remarks.field_words(), "overlaid": remarks.IGNORED["overlay"],
     }
 
 

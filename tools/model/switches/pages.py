@@ -28,9 +28,10 @@ SIZE_CLOSE = "    yield from engine.close_if_marked()\n    engine.deliver_pendin
 TURN_CLOSE = "    yield from engine.close_if_marked()\n    engine.state.orientation = number(command)\n"
 SIDES_CLOSE = "    yield from engine.close_if_marked()\n    engine.deliver_pending_front()\n    state.duplex"
 NEW_PAGE = "    state.default_margins()\n    state.overlay = None\n    state.home()\n"
-ORIENTATION = "    if not engine.names(number(command) in (0, 1, 2, 3)) or engine.in_overlay:\n"
-SIDE = "    if not engine.names(number(command) in (0, 1, 2)) or engine.in_overlay:\n        return\n    state = engine.state\n    yield from close_marked_page(engine)\n"
-SIDES = "    if not engine.names(number(command) in (0, 1, 2)) or engine.in_overlay:\n        return\n    state = engine.state\n    yield from engine.close_if_marked()\n"
+ORIENTATION = "    if not engine.names(number(command) in (0, 1, 2, 3)):\n"
+SIDE = "    if not engine.names(number(command) in (0, 1, 2)):\n        return\n    state = engine.state\n    yield from close_marked_page(engine)\n"
+SIDES = "    if not engine.names(number(command) in (0, 1, 2)):\n        return\n    state = engine.state\n    yield from engine.close_if_marked()\n"
+EJECT = "def eject(engine, _command):\n    yield from close_marked_page(engine)\n\n\ndef close_m"
 MARKED = "    if engine.state.marked:\n        yield from engine.close_page()\n        engine.state.move(engine.state.x, engine.state.home_line())\n"
 
 SWITCHES += [
@@ -52,8 +53,8 @@ SWITCHES += [
     switch("page-size-drops-a-front", "A page size delivers the front that waits.", "table", SIZE_CLOSE, SIZE_CLOSE.replace("engine.deliver_pending_front()", "engine.state.pending_front = None")),
     switch("page-size-front-first", "A page size closes the page first, which may be the back of the front that waits.", "table", SIZE_CLOSE, "    engine.deliver_pending_front()\n" + SIZE_CLOSE),
     switch("page-size-that-holds-has-no-effect", "A page size does everything, also where it holds.", "table", SIZE_CLOSE, "    if engine.state.size.name == PAGE_SIZES[number(command)]:\n        return\n" + SIZE_CLOSE),
-    switch("unknown-page-size-closes", "A page size that there is not does not close the page.", "table", "    if not engine.names(number(command) in PAGE_SIZES) or engine.in_overlay:\n        return\n",
-           "    if engine.in_overlay:\n        return\n    if not engine.names(number(command) in PAGE_SIZES):\n        yield from engine.close_if_marked()\n        return\n"),
+    switch("unknown-page-size-closes", "A page size that there is not does not close the page.", "table", "    if not engine.names(number(command) in PAGE_SIZES):\n        return\n",
+           "    if not engine.names(number(command) in PAGE_SIZES):\n        yield from engine.close_if_marked()\n        return\n"),
     switch("page-size-sets-the-motion-indexes", "A page size leaves the motion indexes.", "table", ".at(engine.state.resolution)\n    new_logical_page(engine.state)\n", ".at(engine.state.resolution)\n    engine.state.default_motion()\n    new_logical_page(engine.state)\n"),
     switch("page-size-turns-to-portrait", "A page size leaves the orientation.", "table", ".at(engine.state.resolution)\n    new_logical_page(engine.state)\n", ".at(engine.state.resolution)\n    engine.state.orientation = 0\n    new_logical_page(engine.state)\n"),
     switch("page-size-at-300", "A page size is of the resolution that holds.", "table", "pages.SIZES[PAGE_SIZES[number(command)]].at(engine.state.resolution)", "pages.SIZES[PAGE_SIZES[number(command)]]"),
@@ -76,9 +77,9 @@ SWITCHES += [
     switch("orientation-leaves-the-motion-index-across", "An orientation sets the motion index across to its default.", "table", "    engine.state.default_motion()\n", "    engine.state.vmi = 1200\n"),
     switch("orientation-of-2-is-none", "There is reverse portrait.", "table", ORIENTATION, ORIENTATION.replace("(0, 1, 2, 3)", "(0, 1, 3)")),
     switch("orientation-of-3-is-none", "There is reverse landscape.", "table", ORIENTATION, ORIENTATION.replace("(0, 1, 2, 3)", "(0, 1, 2)")),
-    switch("orientation-of-4-is-portrait", "An orientation that there is not has no effect.", "table", ORIENTATION, "    if not engine.names(0 <= number(command) <= 4) or engine.in_overlay:\n", "table", TURN_CLOSE, TURN_CLOSE.replace("number(command)", "number(command) % 4")),
+    switch("orientation-of-4-is-portrait", "An orientation that there is not has no effect.", "table", ORIENTATION, "    if not engine.names(0 <= number(command) <= 4):\n", "table", TURN_CLOSE, TURN_CLOSE.replace("number(command)", "number(command) % 4")),
     switch("unknown-orientation-closes", "An orientation that there is not does not close the page.", "table", ORIENTATION + "        return\n",
-           "    if engine.in_overlay:\n        return\n    if not engine.names(number(command) in (0, 1, 2, 3)):\n        yield from engine.close_if_marked()\n        return\n"),
+           "    if not engine.names(number(command) in (0, 1, 2, 3)):\n        yield from engine.close_if_marked()\n        return\n"),
     # sides
     switch("sides-leave-the-page", "Simplex and duplex close a marked page.", "table", SIDES_CLOSE, "    engine.deliver_pending_front()\n    yield from ()\n    state.duplex"),
     switch("sides-close-any-page", "Simplex and duplex leave a page that is not marked.", "table", SIDES_CLOSE, SIDES_CLOSE.replace("close_if_marked", "close_page")),
@@ -87,20 +88,20 @@ SWITCHES += [
     switch("sides-that-hold-have-no-effect", "Simplex and duplex do everything, also where they hold.", "table", SIDES_CLOSE, "    if state.duplex == (number(command) != 0):\n        return\n" + SIDES_CLOSE),
     switch("sides-of-2-are-none", "There is duplex along the short edge.", "table", SIDES, SIDES.replace("(0, 1, 2)", "(0, 1)")),
     switch("sides-of-3-are-duplex", "Sides that there are not have no effect.", "table", SIDES, SIDES.replace("(0, 1, 2)", "(0, 1, 2, 3)"), "table", "2: \"SHORTEDGE\"}", "2: \"SHORTEDGE\", 3: \"SHORTEDGE\"}"),
-    switch("unknown-sides-close", "Sides that there are not do not close the page.", "table", SIDES, "    if engine.in_overlay:\n        return\n    state = engine.state\n    yield from engine.close_if_marked()\n    if not engine.names(number(command) in (0, 1, 2)):\n        return\n"),
+    switch("unknown-sides-close", "Sides that there are not do not close the page.", "table", SIDES, "    state = engine.state\n    yield from engine.close_if_marked()\n    if not engine.names(number(command) in (0, 1, 2)):\n        return\n"),
     switch("sides-leave-the-cursor", "Simplex and duplex put the cursor home.", "table", "2: \"SHORTEDGE\"}[number(command)]\n    state.home()\n", "2: \"SHORTEDGE\"}[number(command)]\n"),
     switch("sides-set-margins", "Simplex and duplex leave the margins.", "table", "2: \"SHORTEDGE\"}[number(command)]\n    state.home()\n", "2: \"SHORTEDGE\"}[number(command)]\n    state.default_margins()\n    state.home()\n"),
     switch("sides-put-the-overlay-off", "Simplex and duplex leave the overlay.", "table", "2: \"SHORTEDGE\"}[number(command)]\n    state.home()\n", "2: \"SHORTEDGE\"}[number(command)]\n    state.overlay = None\n    state.home()\n"),
     # ejection and the choice of a side
-    switch("eject-closes-any-page", "The paper source leaves a page that is not marked.", "table", "        return\n    yield from close_marked_page(engine)\n\n\ndef close_m", "        return\n    yield from engine.close_page()\n    engine.state.move(engine.state.x, engine.state.home_line())\n\n\ndef close_m"),
-    switch("eject-never-closes", "The paper source closes a marked page.", "table", "        return\n    yield from close_marked_page(engine)\n\n\ndef close_m", "        return\n    yield from ()\n\n\ndef close_m"),
-    switch("eject-by-0-alone", "The paper source closes a marked page by every value.", "table", "def eject(engine, _command):\n    if engine.in_overlay:\n", "def eject(engine, command):\n    if engine.in_overlay or number(command) != 0:\n"),
+    switch("eject-closes-any-page", "The paper source leaves a page that is not marked.", "table", EJECT, "def eject(engine, _command):\n    yield from engine.close_page()\n    engine.state.move(engine.state.x, engine.state.home_line())\n\n\ndef close_m"),
+    switch("eject-never-closes", "The paper source closes a marked page.", "table", EJECT, "def eject(engine, _command):\n    yield from ()\n\n\ndef close_m"),
+    switch("eject-by-0-alone", "The paper source closes a marked page by every value.", "table", EJECT, EJECT.replace("_command):\n", "command):\n    if number(command) != 0:\n        return\n")),
     switch("eject-always-goes-home", "The paper source moves the cursor where it closes a page alone.", "table", MARKED, "    if engine.state.marked:\n        yield from engine.close_page()\n    engine.state.move(engine.state.x, engine.state.home_line())\n"),
     switch("eject-stays-down", "Where the paper source or the choice of a side closes a page the cursor is home down.", "table", MARKED, "    if engine.state.marked:\n        yield from engine.close_page()\n"),
     switch("eject-moves-left", "Where the paper source or the choice of a side closes a page the cursor stays across.", "table", MARKED, "    if engine.state.marked:\n        yield from engine.close_page()\n        engine.state.home()\n"),
     switch("side-leaves-the-page", "The choice of a side closes a marked page.", "table", SIDE, SIDE.replace("yield from close_marked_page(engine)", "yield from ()")),
     switch("side-closes-any-page", "The choice of a side leaves a page that is not marked.", "table", SIDE, SIDE.replace("yield from close_marked_page(engine)", "yield from engine.close_page()")),
-    switch("unknown-side-closes", "A side that there is not does not close the page.", "table", SIDE, "    if engine.in_overlay:\n        return\n    state = engine.state\n    yield from close_marked_page(engine)\n    if not engine.names(number(command) in (0, 1, 2)):\n        return\n"),
+    switch("unknown-side-closes", "A side that there is not does not close the page.", "table", SIDE, "    state = engine.state\n    yield from close_marked_page(engine)\n    if not engine.names(number(command) in (0, 1, 2)):\n        return\n"),
     switch("side-1-keeps-a-front", "The choice of the front side delivers the front that waits.", "table", "    if number(command) == 1:\n        engine.deliver_pending_front()\n", "    if number(command) == 1:\n        pass\n"),
     switch("side-0-delivers-a-front", "The choice of the next side leaves the front that waits.", "table", "    if number(command) == 1:\n        engine.deliver_pending_front()\n", "    if number(command) in (0, 1):\n        engine.deliver_pending_front()\n"),
     switch("side-0-makes-a-front", "The choice of the next side makes no front.", "table", "    elif number(command) == 2 and state.duplex and", "    elif state.duplex and"),

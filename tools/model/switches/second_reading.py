@@ -1,6 +1,8 @@
 """Sentences as a second reader found them in the rules, who had not seen the other switches: those that none of these has."""
 
 from . import switch
+from .macros import NESTED, NOT_NESTED, does_in_overlay
+from .pages import EJECT
 
 FOUND = "    found = with_data(mode.character, mode.group, field, end, stream, after_field + 1)\n"
 COUNTED = "        count = max(0, read_value(field).whole())\n    if place"
@@ -218,7 +220,7 @@ PAGES = [
     switch("long-edge-turns-the-back", "The binding turns no back: the long edge.", "engine", BACK, "            side.orientation = (side.orientation + 2 * (state.binding == \"LONGEDGE\")) % 4\n" + BACK),
     switch("sides-1-and-2-exchanged", "1 binds the long edge and 2 the short one.", "table", SIDES, SIDES.replace("{1: \"LONGEDGE\", 2: \"SHORTEDGE\"}", "{2: \"LONGEDGE\", 1: \"SHORTEDGE\"}")),
     switch("simplex-binds-the-long-edge", "Simplex leaves the binding.", "table", SIDES, SIDES + "    else:\n        state.binding = \"LONGEDGE\"\n"),
-    switch("eject-delivers-a-front", "An eject leaves the front that waits.", "table", "        return\n    yield from close_marked_page(engine)\n", "        return\n    yield from close_marked_page(engine)\n    engine.deliver_pending_front()\n"),
+    switch("eject-delivers-a-front", "An eject leaves the front that waits.", "table", EJECT, EJECT.replace("(engine)\n", "(engine)\n    engine.deliver_pending_front()\n")),
     switch("side-2-delivers-a-front", "The choice of the back side leaves the front that waits.", "table", "number(command) == 2 and state.duplex and state.pending_front is None:\n", "number(command) == 2 and state.duplex:\n        engine.deliver_pending_front()\n"),
     switch("side-always-goes-home", "The choice of the side leaves the cursor where the page is not marked.", "table", SELECTED, SELECTED.replace("engine)\n", "engine)\n    state.move(state.x, state.home_line())\n", 1)),
     switch("side-stays-down", "The choice of the side puts the cursor home down where the page closes.", "table", SELECTED, "    down = state.y\n" + SELECTED.replace("engine)\n", "engine)\n    state.place_cursor(state.x, down)\n", 1)),
@@ -255,9 +257,7 @@ MARKS = [
 ]
 
 BODY = "        yield from engine.run(command)\n    engine.depth -= 1\n"
-NOT_NESTED = "    assert not engine.in_overlay\n    if state.overlay not in state.macros:\n"
-NESTED = "    if engine.in_overlay or state.overlay not in state.macros:\n"
-IN_MACRO = "engine.in_overlay and engine.level == 0"
+IN_MACRO, IN_ITS_MACRO = "engine.in_overlay and engine.level == 0", " and self.level"
 RECORDED = "            self.state.definition.append(command)\n"
 DELETED = "        state.macros.pop(state.macro_id, None)\n"
 MACROS = [
@@ -278,15 +278,13 @@ MACROS = [
            "    engine.level += 1\n    yield from run_body(engine, body)\n    engine.level -= 1\n    if engine.depth and body:\n        yield\n"),
     switch("inner-body-ends-the-outer", "Behind the end of an inner body the outer one goes on.", "macros", BODY,
            "        taken = engine.taken + 1\n        yield from engine.run(command)\n        if engine.taken > taken:\n            break\n    engine.depth -= 1\n"),
-    switch("form-feed-closes-in-an-overlay-s-macro", "A form feed has no effect in the macro of an overlay.", "table", "    if engine.in_overlay:\n        return\n    if state.line", f"    if {IN_MACRO}:\n        return\n    if state.line", "macros", NOT_NESTED, NESTED),
+    does_in_overlay("form-feed-closes-in-an-overlay-s-macro", "A form feed has no effect in the macro of an overlay.", "FF", where=IN_ITS_MACRO),
     switch("line-feed-closes-in-an-overlay-s-macro", "A line feed closes no page in the macro of an overlay.", "table", "> limit and not engine.in_overlay:\n", f"> limit and not ({IN_MACRO}):\n", "macros", NOT_NESTED, NESTED),
-    switch("eject-closes-in-an-overlay-s-macro", "An eject has no effect in the macro of an overlay.", "table", "    if engine.in_overlay:\n        return\n    yield from close_marked", f"    if {IN_MACRO}:\n        return\n    yield from close_marked", "macros", NOT_NESTED, NESTED),
-    switch("side-closes-in-an-overlay-s-macro", "The choice of the side has no effect in the macro of an overlay.", "table", "    if not engine.names(number(command) in (0, 1, 2)) or engine.in_overlay:\n        return\n    state = engine.state\n    yield from close_marked",
-           f"    if not engine.names(number(command) in (0, 1, 2)) or {IN_MACRO}:\n        return\n    state = engine.state\n    yield from close_marked", "macros", NOT_NESTED, NESTED),
-    switch("sides-in-an-overlay-s-macro", "Sides have no effect in the macro of an overlay.", "table", "    if not engine.names(number(command) in (0, 1, 2)) or engine.in_overlay:\n        return\n    state = engine.state\n    yield from engine.close",
-           f"    if not engine.names(number(command) in (0, 1, 2)) or {IN_MACRO}:\n        return\n    state = engine.state\n    yield from engine.close", "macros", NOT_NESTED, NESTED),
-    switch("page-size-in-an-overlay-s-macro", "A page size has no effect in the macro of an overlay.", "table", "in PAGE_SIZES) or engine.in_overlay:\n", f"in PAGE_SIZES) or {IN_MACRO}:\n", "macros", NOT_NESTED, NESTED),
-    switch("orientation-in-an-overlay-s-macro", "An orientation has no effect in the macro of an overlay.", "table", "in (0, 1, 2, 3)) or engine.in_overlay:\n", f"in (0, 1, 2, 3)) or {IN_MACRO}:\n", "macros", NOT_NESTED, NESTED),
+    does_in_overlay("eject-closes-in-an-overlay-s-macro", "An eject has no effect in the macro of an overlay.", "&lH", where=IN_ITS_MACRO),
+    does_in_overlay("side-closes-in-an-overlay-s-macro", "The choice of the side has no effect in the macro of an overlay.", "&aG", where=IN_ITS_MACRO),
+    does_in_overlay("sides-in-an-overlay-s-macro", "Sides have no effect in the macro of an overlay.", "&lS", where=IN_ITS_MACRO),
+    does_in_overlay("page-size-in-an-overlay-s-macro", "A page size has no effect in the macro of an overlay.", "&lA", where=IN_ITS_MACRO),
+    does_in_overlay("orientation-in-an-overlay-s-macro", "An orientation has no effect in the macro of an overlay.", "&lO", where=IN_ITS_MACRO),
 ]
 
 RUN_LINES = "    return {y: int(row[::-1], 2) << offset for y, row in enumerate(rows) if \"1\" in row}\n"

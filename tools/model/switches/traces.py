@@ -83,13 +83,12 @@ OF_VALUES = [
     ("right-margin", "margin > state.left_margin", "", ["True", "margin >= state.left_margin", "margin > state.left_margin + 1", "margin > 0", "margin > state.left_margin and command.value().tenthousandths >= 0",
      "margin > state.left_margin and to_position(one_more, state.hmi) <= state.logical_width()"]),
     ("page-size", "number(command) in PAGE_SIZES", "", ["True", "number(command) in range(1, 28)", "number(command) in (1, 2, 3, 6, 26)", "number(command) in (2, 3, 6, 26, 27)",
-     "number(command) * 10000 == command.value().tenthousandths and number(command) in PAGE_SIZES", "number(command) in PAGE_SIZES and not engine.in_overlay"]),
-    ("orientation", "number(command) in (0, 1, 2, 3)", " or engine", ["True", "number(command) <= 3", "number(command) >= 0", "number(command) > 0", "number(command) in (0, 1, 2)",
-     "number(command) in (0, 1, 2, 3) and not engine.in_overlay"]),
-    ("sides", "number(command) in (0, 1, 2)", " or engine.in_overlay:\n        return\n    state = engine.state\n    yield from engine", ["True", "number(command) <= 2", "number(command) >= 0",
-     "number(command) in (1, 2)", "number(command) in (0, 1)", "number(command) in (0, 1, 2) and not engine.in_overlay"]),
-    ("side", "number(command) in (0, 1, 2)", " or engine.in_overlay:\n        return\n    state = engine.state\n    yield from close", ["True", "number(command) <= 2", "number(command) >= 0",
-     "number(command) in (1, 2)", "number(command) in (0, 1)", "number(command) in (0, 1, 2) and not engine.in_overlay", "number(command) in (0, 1, 2) and (engine.state.marked or engine.in_overlay)"]),
+     "number(command) * 10000 == command.value().tenthousandths and number(command) in PAGE_SIZES"]),
+    ("orientation", "number(command) in (0, 1, 2, 3)", ":\n        return", ["True", "number(command) <= 3", "number(command) >= 0", "number(command) > 0", "number(command) in (0, 1, 2)"]),
+    ("sides", "number(command) in (0, 1, 2)", ":\n        return\n    state = engine.state\n    yield from engine", ["True", "number(command) <= 2", "number(command) >= 0", "number(command) in (1, 2)",
+     "number(command) in (0, 1)"]),
+    ("side", "number(command) in (0, 1, 2)", ":\n        return\n    state = engine.state\n    yield from close", ["True", "number(command) <= 2", "number(command) >= 0", "number(command) in (1, 2)",
+     "number(command) in (0, 1)", "number(command) in (0, 1, 2) and engine.state.marked"]),
     ("copies", "number(command) >= 1", ":\n        engine.state.copies", ["True", "number(command) >= 0", "number(command) > 1", "number(command) != 0", "1 <= number(command) <= GREATEST_COPIES",
      "command.value().tenthousandths > 0"]),
     ("resolution", "number(command) in RASTER_RESOLUTIONS[state.resolution]", "", ["True", "number(command) in RASTER_RESOLUTIONS[300]", "number(command) in RASTER_RESOLUTIONS[600]",
@@ -133,8 +132,6 @@ FINDS = [
     ("patterns-4", "    elif which in (4, 5):\n", "    elif which in (4, 5):\n        engine.names(which == 5)\n"),
     ("patterns-5", "    elif which in (4, 5):\n", "    elif which in (4, 5):\n        engine.names(which == 4)\n"),
     ("paper-source", "def eject(engine, _command):\n", "def eject(engine, command):\n    engine.names(number(command) >= 0)\n"),
-    ("paper-source-in-overlay", "def eject(engine, _command):\n", "def eject(engine, _command):\n    engine.names(not engine.in_overlay)\n"),
-    ("form-feed-in-overlay", "def form_feed(engine, _command):\n", "def form_feed(engine, _command):\n    engine.names(not engine.in_overlay)\n"),
     ("hp-gl-on", "def hpgl_on(engine, _command):\n", "def hpgl_on(engine, command):\n    engine.names(number(command) < 2)\n"),
     ("hp-gl-off", "def hpgl_off(engine, _command):\n", "def hpgl_off(engine, command):\n    engine.names(number(command) < 2)\n"),
     ("raster-off", "def raster_off(engine, _command):\n", "def raster_off(engine, command):\n    engine.names(number(command) == 0)\n"),
@@ -157,7 +154,8 @@ NOT_FOUND = [
     ("macro-control-above-10", "engine.names(number == MAKE_PERMANENT)", "engine.names(number >= MAKE_PERMANENT)"),
     ("macro-control-below-0", "engine.names(number == MAKE_PERMANENT)", "engine.names(number <= MAKE_PERMANENT)"),
 ]
-REASON = "            else:\n                self.refused = NO_ROW\n        else:\n            self.refused = IN_HPGL\n"
+SKIPPED, WITHOUT_ROW = "            self.refused = IN_HPGL\n", "            self.refused = NO_ROW\n"
+OVERLAID, CARRIED_OUT = "            self.refused = IN_OVERLAY\n", "            yield from row.effect(self, command) or ()\n"
 ROWLESS = {"text": "txt", "foreign-byte": "for", "broken": "brk", "control": "ctl", "escape": "esc", "parameter": "par"}
 
 
@@ -167,7 +165,7 @@ def refused(name, sentence, module, old, new):
 
 def no_row(named):
     """Where no row is told to be missing for a kind of command alone."""
-    return REASON.replace("= NO_ROW", f"= NO_ROW if {named} else None")
+    return WITHOUT_ROW.replace("NO_ROW", f"NO_ROW if {named} else None")
 
 
 REFUSALS = [
@@ -178,30 +176,81 @@ REFUSALS = [
       for name, before, asked, wrongs in OF_BRANCHES for number, wrong in enumerate(wrongs, 1)),
     *(refused(name, "A command that is named, and finds nothing to do, is not refused.", "table", old, new) for name, old, new in FINDS),
     *(refused(name, "A macro control that is named, and finds nothing to do, is not refused.", "macros", old, new) for name, old, new in NOT_FOUND),
-    *(refused(f"{name}-untold", "What has no row is refused.", "engine", REASON, no_row(f'self.kind[:3] != "{kind}"')) for name, kind in ROWLESS.items()),
+    *(refused(f"{name}-untold", "What has no row is refused.", "engine", WITHOUT_ROW, no_row(f'self.kind[:3] != "{kind}"')) for name, kind in ROWLESS.items()),
     refused("untold", "Why a command was refused is told.", T, '"refused": engine.refused', '"refused": None'),
-    refused("of-the-step-before", "A command that is not refused tells no reason.", "engine", "        self.refused = None\n        if", "        if"),
-    refused("in-hp-gl-untold", "A command that HP-GL/2 skips is refused.", "engine", REASON, REASON.replace("IN_HPGL", "None")),
-    refused("no-row-before-hp-gl", "HP-GL/2 is the reason also where a command has no row.", "engine", REASON, REASON.replace("IN_HPGL", "IN_HPGL if table.row_of(command) else NO_ROW")),
-    refused("hp-gl-of-rows-alone", "HP-GL/2 is the reason also where a command has no row.", "engine", REASON, REASON.replace("IN_HPGL", "IN_HPGL if table.row_of(command) else None")),
-    refused("value-before-hp-gl", "HP-GL/2 is the reason, whatever the value.", "engine", REASON,
-            REASON.replace("IN_HPGL", "NO_SUCH_VALUE if self.kind == \"par &lA\" and table.number(command) not in table.PAGE_SIZES else IN_HPGL")),
-    refused("no-row-in-a-body-untold", "A body is told of as the stream is: no row.", "engine", REASON, no_row("self.depth == 0")),
-    refused("in-hp-gl-in-a-body-untold", "A body is told of as the stream is: HP-GL/2.", "engine", REASON, REASON.replace("= IN_HPGL", "= IN_HPGL if self.depth == 0 else None")),
+    refused("of-the-step-before", "A command that is not refused tells no reason.", "engine", "        self.refused = None\n        row", "        row"),
+    refused("in-hp-gl-untold", "A command that HP-GL/2 skips is refused.", "engine", SKIPPED, SKIPPED.replace("IN_HPGL", "None")),
+    refused("no-row-before-hp-gl", "HP-GL/2 is the reason also where a command has no row.", "engine", SKIPPED, SKIPPED.replace("IN_HPGL", "IN_HPGL if row else NO_ROW")),
+    refused("hp-gl-of-rows-alone", "HP-GL/2 is the reason also where a command has no row.", "engine", SKIPPED, SKIPPED.replace("IN_HPGL", "IN_HPGL if row else None")),
+    refused("value-before-hp-gl", "HP-GL/2 is the reason, whatever the value.", "engine", SKIPPED,
+            SKIPPED.replace("IN_HPGL", "NO_SUCH_VALUE if self.kind == \"par &lA\" and table.number(command) not in table.PAGE_SIZES else IN_HPGL")),
+    refused("no-row-in-a-body-untold", "A body is told of as the stream is: no row.", "engine", WITHOUT_ROW, no_row("self.depth == 0")),
+    refused("in-hp-gl-in-a-body-untold", "A body is told of as the stream is: HP-GL/2.", "engine", SKIPPED, SKIPPED.replace("IN_HPGL", "IN_HPGL if self.depth == 0 else None")),
     refused("value-in-a-body-untold", "A body is told of as the stream is: values.", "engine", "        if not named:\n", "        if not named and self.depth == 0:\n"),
     refused("value-outside-untold", "A value is refused outside of bodies, too.", "engine", "        if not named:\n", "        if not named and self.depth:\n"),
-    refused("recorded", "A command that is recorded is not refused.", "engine", "            self.last = RECORDED\n", "            self.last = RECORDED\n            self.refused = None if table.row_of(command) else NO_ROW\n"),
+    refused("recorded", "A command that is recorded is not refused.", "engine", "            self.last = RECORDED\n", "            self.last = RECORDED\n            self.refused = None if row else NO_ROW\n"),
     refused("recorded-value", "A command that is recorded is not refused for its value.", "engine", "            self.last = RECORDED\n",
             "            self.last = RECORDED\n            self.refused = NO_SUCH_VALUE if self.kind == \"par &lA\" and table.number(command) not in table.PAGE_SIZES else None\n"),
     refused("value-as-no-row", "A value that is not named has its own reason.", "engine", "            self.refused = NO_SUCH_VALUE\n", "            self.refused = NO_ROW\n"),
     *(refused(f"spelled-{word.split()[0].lower().replace('/', '-')}-{len(word)}", "The reasons have their words.", "engine", f'"{word}"', f'"{word.upper() if word.islower() else word.lower()}"')
-      for word in ("HP-GL/2", "no row", "no such value")),
-    *(refused(f"{name}-after-overlay", "A value that is not named is refused in an overlay, too.", "table", f"    if not engine.names({asked}) or engine.in_overlay:\n{behind}", f"    if engine.in_overlay or not engine.names({asked}):\n{behind}")
-      for name, asked, behind in (("page-size", "number(command) in PAGE_SIZES", ""), ("orientation", "number(command) in (0, 1, 2, 3)", ""),
-                                  ("sides", "number(command) in (0, 1, 2)", "        return\n    state = engine.state\n    yield from engine"),
-                                  ("side", "number(command) in (0, 1, 2)", "        return\n    state = engine.state\n    yield from close"))),
+      for word in ("HP-GL/2", "overlay", "no row", "no such value")),
 ]
-SWITCHES = REFUSALS + [switch(f"trace-{name}", f"The view tells the {name.replace('-', ' ')} of the state.", T, old, new) for name, old, new in SWAPPED] + [
+# The rows that have no effect in an overlay, each by its word, with what its value is where the row names it, if it does not name all; and all other rows that a body has.
+SKIPPED_ROWS = [("form-feed", "FF", ""), ("page-size", "&lA", "table.number(command) in table.PAGE_SIZES"), ("orientation", "&lO", "table.number(command) in (0, 1, 2, 3)"),
+                ("sides", "&lS", "table.number(command) in (0, 1, 2)"), ("paper-source", "&lH", ""), ("side", "&aG", "table.number(command) in (0, 1, 2)")]
+OF_SOME_VALUES = [each for each in SKIPPED_ROWS if each[2]]
+OTHER_ROWS = {
+    "carriage-return": "CR", "line-feed": "LF", "half-line-feed": "ESC =", "cleared-margins": "ESC 9", "hp-gl-on": "%B", "hp-gl-off": "%A", "unit": "&uD", "column": "&aC", "row-of-text": "&aR",
+    "decipoints-across": "&aH", "decipoints-down": "&aV", "units-across": "*pX", "units-down": "*pY", "push": "&fS", "line-termination": "&kG", "hmi": "&kH", "vmi": "&lC", "lines": "&lD", "top": "&lE",
+    "text-length": "&lF", "skip": "&lL", "left-margin": "&aL", "right-margin": "&aM", "copies": "&lX", "resolution": "*tR", "source-width": "*rS", "source-height": "*rT", "start": "*rA", "raster-off": "*rB",
+    "raster-off-and-plain": "*rC", "method": "*bM", "vertical-skip": "*bY", "row": "*bW", "width-in-units": "*cA", "height-in-units": "*cB", "width-in-decipoints": "*cH", "height-in-decipoints": "*cV",
+    "black-fill": "*cP 0", "fill": "*cP 1-5", "pattern-id": "*cG", "definition-of-a-pattern": "*cW", "pattern-control": "*cQ", "current-pattern": "*vT", "source-opaque": "*vN", "pattern-opaque": "*vO",
+    "macro-id": "&fY", "macro-control": "&fX",
+}
+OUTSIDE = "not self.in_overlay and table.is_skipped_in_overlay(row)"
+
+
+def other_reason(name, sentence, line, reason, where):
+    """Another reason that is told, or none, in place of that of a line of the engine; nothing else changes."""
+    told = line.split()[-1]
+    return refused(name, sentence, "engine", line, line.replace(told, f"{reason} if {where} else {told}"))
+
+
+def as_overlay(name, sentence, where):
+    """What has an effect is told as refused because of an overlay."""
+    return refused(name, sentence, "engine", CARRIED_OUT, f"            self.refused = IN_OVERLAY if {where} else None\n{CARRIED_OUT}")
+
+
+def rows_of(word, sentence, line, reason, where, some=SKIPPED_ROWS):
+    """The same for each of some rows."""
+    return [other_reason(f"{name}-{word}", sentence, line, reason, where.format(row=f"row and row.name == \"{row}\"", named=named)) for name, row, named in some]
+
+
+IN_OVERLAYS = [
+    *rows_of("in-overlay-untold", "What an overlay skips is refused.", OVERLAID, "None", "{row}"),
+    *rows_of("in-an-overlay-s-body-untold", "What an overlay skips is refused in its own body.", OVERLAID, "None", "{row} and not self.level"),
+    *rows_of("in-an-overlay-s-macro-untold", "What an overlay skips is refused in a macro of it, too.", OVERLAID, "None", "{row} and self.level"),
+    *rows_of("value-before-overlay", "The overlay is the reason, whatever the value.", OVERLAID, "NO_SUCH_VALUE", "{row} and not {named}", OF_SOME_VALUES),
+    *rows_of("value-in-overlay-untold", "What an overlay skips is refused, also where its row does not name its value.", OVERLAID, "None", "{row} and not {named}", OF_SOME_VALUES),
+    *rows_of("named-value-in-overlay-untold", "What an overlay skips is refused, also where its row names its value.", OVERLAID, "None", "{row} and {named}", OF_SOME_VALUES),
+    *rows_of("overlay-before-hp-gl", "HP-GL/2 is the reason before an overlay.", SKIPPED, "IN_OVERLAY", "self.in_overlay and {row}"),
+    *rows_of("value-before-hp-gl-in-overlay", "HP-GL/2 is the reason in an overlay, too, whatever the value.", SKIPPED, "NO_SUCH_VALUE", "self.in_overlay and {row} and not {named}", OF_SOME_VALUES),
+    *(as_overlay(f"{name}-as-overlay", "What an overlay carries out is not refused.", f"self.in_overlay and row.name == \"{row}\"") for name, row in OTHER_ROWS.items()),
+    *(other_reason(f"{name}-as-overlay", "What has no row has no other reason in an overlay.", WITHOUT_ROW, "IN_OVERLAY", f"self.in_overlay and self.kind[:3] == \"{kind}\"")
+      for name, kind in ROWLESS.items() if name != "foreign-byte"),
+    *(other_reason(f"{name}-in-overlay-untold", "What has no row is refused in an overlay, too.", WITHOUT_ROW, "None", f"self.in_overlay and self.kind[:3] == \"{kind}\"")
+      for name, kind in ROWLESS.items() if name != "foreign-byte"),
+    other_reason("rowless-of-the-page-as-overlay", "What has no row has no other reason in an overlay, also beside the rows of the page.", WITHOUT_ROW, "IN_OVERLAY", "self.in_overlay and self.kind[:6] == \"par &l\""),
+    other_reason("rowless-while-an-overlay-is-on", "What has no row has no other reason outside of an overlay, also where one is on.", WITHOUT_ROW, "IN_OVERLAY", "self.state.overlay is not None and not self.in_overlay"),
+    other_reason("hp-gl-in-overlay-as-overlay", "What HP-GL/2 skips has no other reason in an overlay.", SKIPPED, "IN_OVERLAY", "self.in_overlay"),
+    other_reason("hp-gl-in-overlay-untold", "What HP-GL/2 skips is refused in an overlay, too.", SKIPPED, "None", "self.in_overlay"),
+    other_reason("value-as-overlay", "A value that a row does not name has no other reason in an overlay.", "            self.refused = NO_SUCH_VALUE\n", "IN_OVERLAY", "self.in_overlay"),
+    other_reason("value-in-overlay-untold", "A value that a row does not name is refused in an overlay, too.", "            self.refused = NO_SUCH_VALUE\n", "None", "self.in_overlay"),
+    as_overlay("outside-while-an-overlay-is-on", "A command outside of an overlay is not refused for one that is on.", f"self.state.overlay is not None and {OUTSIDE}"),
+    as_overlay("in-a-macro-as-overlay", "A macro that runs outside is no overlay.", f"self.depth and {OUTSIDE}"),
+    as_overlay("in-a-macro-while-an-overlay-is-on", "A macro that runs outside is no overlay, also where one is on.", f"self.depth and self.state.overlay is not None and {OUTSIDE}"),
+]
+SWITCHES = REFUSALS + IN_OVERLAYS + [switch(f"trace-{name}", f"The view tells the {name.replace('-', ' ')} of the state.", T, old, new) for name, old, new in SWAPPED] + [
     switch("trace-tells-all-again", "A field is told where it is another than behind the step before.", T, "    if before is None:\n        return after\n", "    return after\n"),
     switch("trace-tells-first-changes-alone", "The first line tells all fields.", T, "        self.view = None\n", "        self.view = view_of(self.engine.state)\n"),
     switch("trace-tells-objects-whole", "Of an object the fields that changed are told alone.", T, "            told[name] = other\n", "            told[name] = fields\n"),
