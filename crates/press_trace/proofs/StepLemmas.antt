@@ -220,7 +220,7 @@ pub lies_so : (view : View) (given : Option Machine) (machine : Machine)
 lies_so view given machine here is =
     ap (λ (one : View). one.environment.page_setup.orientation) (subst (λ (some : Option Machine). IfSome some (λ machine. view ≡ view_of view.stack machine)) is here)
 
-lines_kept : (orientation : Orientation) (before behind : Option ℕ) (old new : State) → LiesSo orientation old → IsLineAt before old → IsLineAt behind new
+pub lines_kept : (orientation : Orientation) (before behind : Option ℕ) (old new : State) → LiesSo orientation old → IsLineAt before old → IsLineAt behind new
     → KeepsOtherLines old new → KeepsRest (lines_between orientation before behind) old.page new.page
 lines_kept orientation (Some first) (Some last) old new lies one other keeps = λ page next is next_is.
     subst (λ (o : Orientation). AgreeBesideLines o first (last + most_dot_lines) page next) (sym lies) (keeps first last page next one other is next_is)

@@ -16,7 +16,7 @@ use serde_json::Value;
 use std::alloc::{AllocError, Global};
 
 /// Appends a whole number.
-pub(crate) fn append_number(count: u64, text: &mut Vec<u8>) -> Result<(), AllocError>
+pub fn append_number(count: u64, text: &mut Vec<u8>) -> Result<(), AllocError>
     ensures { OnOk result (text.new.items
         ≡ text.old.items ++ compact_text (number (unsigned count))) }
 {
@@ -25,7 +25,7 @@ pub(crate) fn append_number(count: u64, text: &mut Vec<u8>) -> Result<(), AllocE
 }
 
 /// Appends an integer.
-pub(crate) fn append_integer(distance: i64, text: &mut Vec<u8>) -> Result<(), AllocError>
+pub fn append_integer(distance: i64, text: &mut Vec<u8>) -> Result<(), AllocError>
     ensures { OnOk result (text.new.items
         ≡ text.old.items ++ compact_text (number (of_integer distance))) }
 {

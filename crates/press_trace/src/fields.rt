@@ -13,7 +13,7 @@ use press_rows::Method;
 
 /// A variable of the job language.
 #[derive(Clone, Copy)]
-pub(crate) enum Variable {
+pub enum Variable {
     Binding,
     Copies,
     Duplex,
@@ -24,7 +24,7 @@ pub(crate) enum Variable {
 
 /// A field of what can be seen.
 #[derive(Clone, Copy)]
-pub(crate) enum Field {
+pub enum Field {
     /// The current value of a variable of the job language.
     Current(Variable),
     /// The default value of one.
@@ -107,7 +107,7 @@ pub(crate) enum Field {
 
 /// Fields that stand in one object.
 #[derive(Clone, Copy)]
-pub(crate) enum Group {
+pub enum Group {
     /// The current values of the job language.
     Current,
     /// The cursor.
@@ -129,7 +129,7 @@ pub(crate) enum Group {
 }
 
 /// All groups, by their words.
-pub(crate) const GROUPS: [Group; 9] = [
+pub const GROUPS: [Group; 9] = [
     Group::Current,
     Group::Cursor,
     Group::Default,
@@ -143,7 +143,7 @@ pub(crate) const GROUPS: [Group; 9] = [
 
 impl Group {
     /// The word under which its object stands.
-    pub(crate) fn word(self) -> &'static str
+    pub fn word(self) -> &'static str
         ensures { result.now ≡ group_word self }
     {
         match self {
@@ -160,7 +160,7 @@ impl Group {
     }
 
     /// Its fields, by their words.
-    pub(crate) fn fields(self) -> &'static [Field]
+    pub fn fields(self) -> &'static [Field]
         ensures { result.now ≡ fields_of self }
     {
         match self {
@@ -256,7 +256,7 @@ impl Variable {
 
 impl Field {
     /// The word of a field.
-    pub(crate) fn key(self) -> &'static str
+    pub fn key(self) -> &'static str
         ensures { result.now ≡ key_of self }
     {
         match self {
@@ -302,7 +302,7 @@ impl Field {
     }
 
     /// What a field tells of what can be seen.
-    pub(crate) fn told<'a>(self, view: &View<'a>) -> Told<'a>
+    pub fn told<'a>(self, view: &View<'a>) -> Told<'a>
         ensures { result ≡ told_by self view.now }
     {
         match self {

@@ -2,22 +2,22 @@
 //! and what went out in it.
 #![tactic(auto)]
 
-mod appending;
+pub mod appending;
 mod fault;
-mod fields;
+pub mod fields;
 mod line;
 mod line_of;
 mod members;
-mod page;
+pub mod page;
 mod place;
 pub mod rebuilding;
 mod rows;
-mod seen;
-mod sent;
+pub mod seen;
+pub mod sent;
 mod spelled;
-mod text;
-mod told;
-mod touched;
+pub mod text;
+pub mod told;
+pub mod touched;
 mod tracer;
 mod tracing;
 

@@ -20,7 +20,7 @@ use std::alloc::{AllocError, Global};
 
 /// What changed of the open page.
 #[derive(Clone, Copy)]
-pub(crate) enum Change {
+pub enum Change {
     /// Nothing.
     Nothing,
     /// It closed.
@@ -31,9 +31,9 @@ pub(crate) enum Change {
 
 /// What is told of the open page: whether it is a new one, and what changed on it.
 #[derive(Clone, Copy)]
-pub(crate) struct PageTold {
-    pub(crate) opened: bool,
-    pub(crate) change: Change,
+pub struct PageTold {
+    pub opened: bool,
+    pub change: Change,
 }
 
 /// That it is as it was.
@@ -248,7 +248,7 @@ fn told_open(
 }
 
 /// What is told of the open page now, where it was so before, and a step touched this of it. The answer has the page of now, too.
-pub(crate) fn told_page(
+pub fn told_page(
     alloc: Global,
     before: Option<Canvas>,
     now: Option<&Canvas>,

@@ -15,7 +15,7 @@ use std::alloc::{AllocError, Global};
 
 /// What could be seen at some time, kept.
 #[derive(Drop)]
-pub(crate) struct Seen {
+pub struct Seen {
     /// All but the positions that were pushed.
     view: View<'static>,
     pushed: Vec<CursorPosition>,
@@ -23,7 +23,7 @@ pub(crate) struct Seen {
 
 impl Seen {
     /// What can be seen now.
-    pub(crate) fn of(alloc: Global, view: &View<'_>) -> Result<Self, AllocError>
+    pub fn of(alloc: Global, view: &View<'_>) -> Result<Self, AllocError>
         ensures { IfOk result (λ seen. IsAlike seen view.now) }
     {
         let View {
@@ -72,7 +72,7 @@ impl Seen {
     }
 
     /// What could be seen.
-    pub(crate) fn view(&self) -> View<'_>
+    pub fn view(&self) -> View<'_>
         ensures { IsAlike self.now result }
     {
         View {

@@ -13,7 +13,7 @@ use std::alloc::{AllocError, Global};
 
 /// A sink that takes each sheet, and keeps none.
 #[derive(Drop)]
-struct NoSheets;
+pub struct NoSheets;
 
 impl SheetSink for NoSheets {
     ghost use Rattle.press_sink.specs.SinkLog.{unlisted_log};

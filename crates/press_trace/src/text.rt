@@ -20,7 +20,7 @@ pub(crate) fn append_kind(alloc: Global, kind: Kind, text: &mut Vec<u8>) -> Resu
 }
 
 /// The words of a reason why a command is refused.
-fn refusal_word(refusal: Refusal) -> &'static [u8]
+pub fn refusal_word(refusal: Refusal) -> &'static [u8]
     ensures { result.now ≡ refusal_word refusal }
 {
     match refusal {

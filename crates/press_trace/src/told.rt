@@ -12,7 +12,7 @@ use std::alloc::AllocError;
 
 /// What a field tells.
 #[derive(Clone, Copy)]
-pub(crate) enum Told<'a> {
+pub enum Told<'a> {
     /// A whole number.
     Number(u64),
     /// Whether something is so.
@@ -25,7 +25,7 @@ pub(crate) enum Told<'a> {
 
 impl Told<'_> {
     /// Whether this tells the same.
-    pub(crate) fn is_same(self, other: Told<'_>) -> bool
+    pub fn is_same(self, other: Told<'_>) -> bool
         ensures { result ≡ is_same self.entry other.entry }
     {
         match (self, other) {

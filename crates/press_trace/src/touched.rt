@@ -11,7 +11,7 @@ use press_page::Orientation;
 
 /// Which lines of the open page a step may have touched.
 #[derive(Clone, Copy)]
-pub(crate) enum Touched {
+pub enum Touched {
     /// None of them, and the page is still open.
     Nothing,
     /// Those from line `first` on and before line `end` of the frame that lies so, of a page that is still open.
@@ -31,7 +31,7 @@ const MOST_DOT_LINES: u32 = 8;
 const FARTHEST: u64 = 1 << 33;
 
 /// The line of the frame on which a row that is transferred now begins.
-pub(crate) fn row_line(view: &View<'_>) -> Option<u32>
+pub fn row_line(view: &View<'_>) -> Option<u32>
     ensures line { IfSome result
         (λ line. row_line view.now.environment view.now.y.0 ≡ Some line) }
     ensures small { IfSome result (λ line. line < 2 ^ 31) }
@@ -48,7 +48,7 @@ pub(crate) fn row_line(view: &View<'_>) -> Option<u32>
 
 /// What a step may have touched that took a command of this kind, outside of bodies or in one, by how the frame lay and the line of a row
 /// before it, and that behind it.
-pub(crate) fn touched_by(
+pub fn touched_by(
     outside: bool,
     kind: Kind,
     orientation: Orientation,
