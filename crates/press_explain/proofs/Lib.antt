@@ -1,0 +1,6 @@
+-- What is proved by hand of explanations.
+mod CarryLemmas
+mod DeedLemmas
+mod ReadLemmas
+mod StandLemmas
+mod TitleLemmas
