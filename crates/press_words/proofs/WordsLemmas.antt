@@ -4,9 +4,10 @@ use Rattle.std.specs.Prelude.{option_and_then, ok_or}
 use Rattle.clap.specs.Built.{AddsSubcommand}
 use Rattle.clap.specs.declared.builder.command.Command.{Command}
 use Rattle.clap.specs.declared.builder.command.Command.TheViews.{out-Command}
-use Rattle.clap.specs.Words.{App, app_of, shape_of, with_subcommand, Row, Text, all_of, first_of, first_value, matched_of, raw_values, rows_of, fault_of, subcommand_of, IsAmong, HasKind, kind_of}
+use Rattle.clap.specs.Words.{App, app_of, shape_of, with_subcommand, Row, Text, all_of, first_of, first_value, matched_of, raw_values, rows_of, fault_of, subcommand_name_of, subcommand_of, subcommand_rows_of, IsAmong, HasKind, kind_of}
 use Rattle.clap.specs.declared.error.Error.{Error}
 use Rattle.clap.specs.declared.error.kind.ErrorKind.{ErrorKind}
+use Rattle.clap.specs.declared.parser.matches.ArgMatches.{ArgMatches}
 use Rattle.clap.specs.declared.parser.matches.Found.{Found}
 use Rattle.clap.proofs.WalkLemmas.{first_value-rows, raw_values-rows}
 use Rattle.press_words.specs.declared.words.Request.{Request}
@@ -22,6 +23,11 @@ value_by_rows found id = first_value-rows found id
 -- and all of them
 pub values_by_rows : (found : Found) (id : Text) → option_map raw_values (matched_of found id) ≡ all_of id (rows_of found)
 values_by_rows found id = raw_values-rows found id
+
+-- the name of the subcommand that was used, and its rows, are what the matches have of it
+pub subcommand_rows-is : (matches : ArgMatches) (name : Text) (rows : List Row) → Some name ≡ subcommand_name_of matches
+    → Some rows ≡ option_map (λ found. found.1) (subcommand_rows_of matches) → subcommand_rows_of matches ≡ Some (name, rows)
+subcommand_rows-is matches name rows is has = grind arith
 
 -- a command line with one subcommand more
 pub subcommand_added : (old sub new : Command) (before app : App) → AddsSubcommand old sub new → (out-Command sub).has_globals ≡ false

@@ -11,7 +11,7 @@ use Rattle.press_words.specs.declared.words.Output.TheVariants as outputs
 use Rattle.press_words.specs.declared.words.Request.{Request}
 use Rattle.press_words.specs.declared.words.Refusal.{Refusal}
 use Rattle.press_words.specs.declared.words.Refusal.TheVariants.{Words, NoName, NoDefault}
-use Rattle.press_words.specs.Words.{Source, Standard, FileNamed, Made, Listed, SummedOf, FilesBy, SessionAsked, Answered, AsText, DebuggedOf, TracedOf, RunsOf, PageTo, StreamTo, JobTo, TablesTold, Arguments, press_app}
+use Rattle.press_words.specs.Words.{Source, Standard, FileNamed, Made, Listed, SummedOf, FilesBy, SessionAsked, Answered, AsText, ExplainedOf, DebuggedOf, TracedOf, RunsOf, PageTo, StreamTo, JobTo, TablesTold, Arguments, press_app}
 
 -- an input by the text of its name
 abbrev pub source_seen : Input → Source
@@ -34,6 +34,7 @@ made_seen (outputs.Sums prefix) = SummedOf prefix.items
 made_seen (outputs.Files prefix template) = FilesBy prefix.items template.now
 made_seen (outputs.Session asked) = Answered (session_seen asked)
 made_seen outputs.Text = AsText
+made_seen (outputs.Explained prefix) = ExplainedOf prefix.items
 made_seen (outputs.Debugged prefix name) = DebuggedOf prefix.items name.now
 made_seen (outputs.Traced prefix) = TracedOf prefix.items
 made_seen (outputs.Runs prefix) = RunsOf prefix.items

@@ -8,7 +8,7 @@ use Rattle.press_pjl.specs.Variables.{is_assignment}
 use Rattle.press_words.specs.Defaults.{prefix_of}
 use Rattle.press_words.specs.Lines.{number_word}
 use Rattle.press_words.specs.declared.subcommands.Subcommand.{Subcommand}
-use Rattle.press_words.specs.declared.subcommands.Subcommand.TheVariants.{Print, Asm, Disasm, Debug, Trace, Page, Write, Press, Tables}
+use Rattle.press_words.specs.declared.subcommands.Subcommand.TheVariants.{Print, Asm, Disasm, Explain, Debug, Trace, Page, Write, Press, Tables}
 use Rattle.clap.specs.declared.builder.action.ArgAction.TheVariants.{Append, SetTrue}
 
 -- Where an input is read: from standard input, or from the file of this name.
@@ -25,7 +25,7 @@ pub record SessionAsked : Type 0 where
   pub goes_on : Bool
 
 -- What is made of an input. A prefix is bytes that stand in front of the stream.
--- Listed: the listing of a stream. SummedOf: the same with a digest of each side. FilesBy: the files of a stream, named by a template. AsText: the assembly text of a stream. TracedOf:
+-- Listed: the listing of a stream. SummedOf: the same with a digest of each side. FilesBy: the files of a stream, named by a template. AsText: the assembly text of a stream. ExplainedOf: the same, explained command by command. TracedOf:
 -- the trace of a stream. RunsOf: the same, with a line for each run of steps that do no more than count. PageTo: the file of this name, of the page that is open behind so many steps of a stream. DebuggedOf: a
 -- debugger's answers to lines, over the stream of this file. Answered: the answers of a press that is asked for so to lines of events, the
 -- files of the sides that it delivers, where they are asked for, and their listing. StreamTo: the file of this name, of an assembly text. JobTo: the file of this name, the job of a
@@ -36,6 +36,7 @@ pub data Made : Type 0 where
   FilesBy : (prefix : List ℕ) (template : Text) → Made
   Answered : SessionAsked → Made
   AsText : Made
+  ExplainedOf : (prefix : List ℕ) → Made
   DebuggedOf : (prefix : List ℕ) (name : Text) → Made
   TracedOf : (prefix : List ℕ) → Made
   RunsOf : (prefix : List ℕ) → Made
@@ -73,6 +74,10 @@ asm_app = with_rule (with_rule (new_app (codes "asm")) (needed_rule (codes "IN")
 -- The word of `disasm`: the input.
 abbrev pub disasm_app : App
 disasm_app = with_rule (new_app (codes "disasm")) (needed_rule (codes "IN"))
+
+-- The words of `explain`: any number of defaults, and the input.
+abbrev pub explain_app : App
+explain_app = with_rule (with_rule (new_app (codes "explain")) default_rule) (needed_rule (codes "IN"))
 
 -- The words of `debug`: any number of defaults, and the input.
 abbrev pub debug_app : App
@@ -174,6 +179,12 @@ asm_arguments rows =
 abbrev pub disasm_arguments : List Row → Option Arguments
 disasm_arguments rows = option_map (λ name. record { source = source_of name; made = AsText }) (first_of (codes "IN") rows)
 
+-- what `explain` asks for
+abbrev pub explain_arguments : List Row → Option Arguments
+explain_arguments rows =
+    option_and_then (λ prefix. option_map (λ name. record { source = source_of name; made = ExplainedOf prefix }) (first_of (codes "IN") rows))
+    (prefix_in rows)
+
 -- what `debug` asks for: the lines stand on standard input, so the stream stands in a file
 abbrev pub debug_of : (prefix : List ℕ) → Text → Option Arguments
 debug_of prefix name = if bytes_eq name (codes "-") then None else Some (record { source = Standard; made = DebuggedOf prefix name })
@@ -235,7 +246,7 @@ usage words about asks = record { words = words; about = about; asks = asks }
 
 -- The table of subcommands.
 abbrev pub subcommands : List Subcommand
-subcommands = Print ∷ Asm ∷ Disasm ∷ Debug ∷ Trace ∷ Page ∷ Write ∷ Press ∷ Tables ∷ []
+subcommands = Print ∷ Asm ∷ Disasm ∷ Explain ∷ Debug ∷ Trace ∷ Page ∷ Write ∷ Press ∷ Tables ∷ []
 
 abbrev pub usage_of : Subcommand → Usage
 usage_of Print =
@@ -243,6 +254,8 @@ usage_of Print =
 usage_of Asm = usage asm_app (codes "Makes a print stream from assembly text, a line for each command") asm_arguments
 usage_of Disasm =
     usage disasm_app (codes "Writes a stream as assembly text, a line for each command, to standard output") disasm_arguments
+usage_of Explain =
+    usage explain_app (codes "Writes a stream as assembly text, and in front of each command what it is and does") explain_arguments
 usage_of Debug = usage debug_app (codes "Steps through a stream, as the lines on standard input ask") debug_arguments
 usage_of Trace = usage trace_app (codes "Tells what a stream does, step by step, in a line of JSON for each") trace_arguments
 usage_of Page =

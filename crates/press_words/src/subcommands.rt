@@ -13,6 +13,7 @@ pub(crate) enum Subcommand {
     Print,
     Asm,
     Disasm,
+    Explain,
     Debug,
     Trace,
     Page,
@@ -22,10 +23,11 @@ pub(crate) enum Subcommand {
 }
 
 /// All subcommands, in the order of help.
-pub(crate) const SUBCOMMANDS: [Subcommand; 9] = [
+pub(crate) const SUBCOMMANDS: [Subcommand; 10] = [
     Subcommand::Print,
     Subcommand::Asm,
     Subcommand::Disasm,
+    Subcommand::Explain,
     Subcommand::Debug,
     Subcommand::Trace,
     Subcommand::Page,
@@ -51,6 +53,10 @@ fn row_of<'a>(subcommand: Subcommand) -> (&'a str, &'a str)
         Subcommand::Disasm => (
             "disasm",
             "Writes a stream as assembly text, a line for each command, to standard output",
+        ),
+        Subcommand::Explain => (
+            "explain",
+            "Writes a stream as assembly text, and in front of each command what it is and does",
         ),
         Subcommand::Debug => (
             "debug",

@@ -13,7 +13,9 @@ use crate::stream_words::{
     trace_command, trace_request,
 };
 use crate::subcommands::{SUBCOMMANDS, Subcommand, bare_command, subcommand_named};
-use crate::text_words::{asm_command, asm_request, disasm_command, disasm_request};
+use crate::text_words::{
+    asm_command, asm_request, disasm_command, disasm_request, explain_command, explain_request,
+};
 use crate::told_words::{has_controls, told_word, told_words};
 use clap::error::ErrorKind;
 use clap::{ArgMatches, Command, Error};
@@ -37,6 +39,7 @@ const AFTER_HELP: &str = "Examples:
   press print page.pcl page-%d.pbm
   press print --default RESOLUTION=600 page.pcl page-%d.pbm
   press disasm page.pcl > page.asm
+  press explain page.pcl
   press asm page.asm changed.pcl
   press debug page.pcl < lines.txt
   press trace page.pcl > trace.jsonl
@@ -64,7 +67,7 @@ A fault is told in one line on standard error. What each means, and what to do:
   fault 702             a line turn N ENGINE names an engine that the press does not have:
                         count them from 0, or ask for more by --engines
   fault memory          memory ran out: give the program more, or print a smaller stream
-docs/FAULTS.md says more of each. See also docs/ASSEMBLY.md, DEBUGGER.md, TICKETS.md and QUEUE.md.";
+docs/FAULTS.md says more of each. See also docs/ASSEMBLY.md, EXPLAIN.md, DEBUGGER.md, TICKETS.md and QUEUE.md.";
 
 /// Where an input is read.
 #[derive(Debug, Drop)]
@@ -89,6 +92,8 @@ pub enum Output<'a> {
     Session(SessionRequest<'a>),
     /// The assembly text of a stream.
     Text,
+    /// The assembly text of a stream, explained command by command, with these bytes in front of the stream.
+    Explained(Vec<u8>),
     /// The answers to the lines of a debugger of the stream of this file, with these bytes in front of it.
     Debugged(Vec<u8>, &'a str),
     /// The lines of the trace of a stream, with these bytes in front of it.
@@ -181,6 +186,7 @@ fn command_of<'a>(alloc: Global, subcommand: Subcommand) -> Result<Command<'a>, 
         Subcommand::Print => print_command(alloc),
         Subcommand::Asm => asm_command(alloc),
         Subcommand::Disasm => disasm_command(alloc),
+        Subcommand::Explain => explain_command(alloc),
         Subcommand::Debug => debug_command(alloc),
         Subcommand::Trace => trace_command(alloc),
         Subcommand::Page => page_command(alloc),
@@ -247,6 +253,7 @@ fn subcommand_request<'a>(
         Subcommand::Print => print_request(alloc, matches),
         Subcommand::Asm => Ok(asm_request(matches)),
         Subcommand::Disasm => Ok(disasm_request(matches)),
+        Subcommand::Explain => explain_request(alloc, matches),
         Subcommand::Debug => debug_request(alloc, matches),
         Subcommand::Trace => trace_request(alloc, matches),
         Subcommand::Page => page_request(alloc, matches),

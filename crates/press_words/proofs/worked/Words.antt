@@ -1,7 +1,7 @@
 -- What some words ask for.
 use Rattle.std.specs.Prelude.{◌≡◌, [], ◌∷◌, Some, None, codes, false, refl, true}
 use Rattle.clap.proofs.OnLiterals.{clap_on_literals}
-use Rattle.press_words.specs.Words.{Standard, FileNamed, Listed, SummedOf, FilesBy, Answered, AsText, DebuggedOf, TracedOf, PageTo, StreamTo, JobTo, TablesTold, arguments}
+use Rattle.press_words.specs.Words.{Standard, FileNamed, Listed, SummedOf, FilesBy, Answered, AsText, ExplainedOf, DebuggedOf, TracedOf, PageTo, StreamTo, JobTo, TablesTold, arguments}
 
 nothing : arguments (codes "press" ∷ []) ≡ Some (record { source = Standard; made = Listed [] })
 nothing = refl
@@ -97,6 +97,32 @@ tables_of_a_word = refl
 disassembling : arguments (codes "press" ∷ codes "disasm" ∷ codes "-" ∷ []) ≡ Some (record { source = Standard; made = AsText })
 unfolding clap_on_literals
 disassembling = refl
+
+explaining : arguments (codes "press" ∷ codes "explain" ∷ codes "a.pcl" ∷ []) ≡ Some (record { source = FileNamed (codes "a.pcl"); made = ExplainedOf [] })
+unfolding clap_on_literals
+explaining = refl
+
+explaining_with_a_default : arguments (codes "press" ∷ codes "explain" ∷ codes "--default" ∷ codes "RESOLUTION=600" ∷ codes "-" ∷ [])
+    ≡ Some (record { source = Standard; made = ExplainedOf (codes "@PJL DEFAULT RESOLUTION=600\n@PJL RESET\n") })
+unfolding clap_on_literals
+explaining_with_a_default = refl
+
+-- without an input, with two, with a flag that it has not, and with a default that sets nothing
+explaining_nothing : arguments (codes "press" ∷ codes "explain" ∷ []) ≡ None
+unfolding clap_on_literals
+explaining_nothing = refl
+
+explaining_two : arguments (codes "press" ∷ codes "explain" ∷ codes "a.pcl" ∷ codes "b" ∷ []) ≡ None
+unfolding clap_on_literals
+explaining_two = refl
+
+explaining_by_runs : arguments (codes "press" ∷ codes "explain" ∷ codes "--runs" ∷ codes "a.pcl" ∷ []) ≡ None
+unfolding clap_on_literals
+explaining_by_runs = refl
+
+explaining_of_no_value : arguments (codes "press" ∷ codes "explain" ∷ codes "--default" ∷ codes "COPIES=1000" ∷ codes "a.pcl" ∷ []) ≡ None
+unfolding clap_on_literals
+explaining_of_no_value = refl
 
 writing : arguments (codes "press" ∷ codes "write" ∷ codes "-" ∷ codes "o" ∷ codes "b" ∷ codes "a" ∷ codes "b" ∷ [])
     ≡ Some (record { source = FileNamed (codes "-"); made = JobTo (codes "o") (codes "b" ∷ codes "a" ∷ codes "b" ∷ []) })
