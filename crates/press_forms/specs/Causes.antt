@@ -15,7 +15,7 @@ TextCause fails texts.WriteFault = fails.outputs
 TextCause fails texts.NoOutput = fails.output
 TextCause fails other = ⊤
 
--- of a trace
+-- of a trace, and of a stream that is explained
 abbrev pub TraceCause : Failures → TraceError → Type 0
 TraceCause fails traces.ReadFault = fails.input
 TraceCause fails (traces.Output error) = fails.output

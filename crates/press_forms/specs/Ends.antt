@@ -1,5 +1,6 @@
 -- How the other forms of a stream end, and a session with a debugger of it: each as a relation of the edges before and after, with the status.
 use Rattle.std.specs.Prelude.{◌≡◌, ◌≢◌, ℕ, List, Option}
+use Rattle.press_explain.specs.Explained.{Explained, StopsExplaining}
 use Rattle.press_trace.specs.Traced.{TracedBy, StopsTellingBy}
 use Rattle.press_trace.specs.declared.line_of.LineOf.{LineOf}
 use Rattle.press_trace.specs.declared.line_of.LineOf.TheVariants.{Step}
@@ -24,6 +25,16 @@ Disassembling status before after =
     (λ why.
     StopsDisassembling before.unread after.unread before.written after.written why
     × TextCause (writing (fails_of after)) why)
+    × MakesNothing before after
+
+-- A stream was explained to standard output, or not. No output is made.
+abbrev pub Explaining : (status : ℕ) (before after : Edge) → Type 0
+Explaining status before after =
+    Ended status before.told after.told told_of_trace
+    (Explained before.unread after.unread before.written after.written)
+    (λ why.
+    StopsExplaining before.unread after.unread before.written after.written why
+    × TraceCause (writing (fails_of after)) why)
     × MakesNothing before after
 
 -- A text was assembled into an output of this name, or not. Standard output takes nothing.

@@ -22,7 +22,7 @@ told_of_text texts.WriteFault = Some (fault_text (Some pbm.write_fault))
 told_of_text texts.NoOutput = Some output_text
 told_of_text texts.NoMemory = Some (fault_text None)
 
--- of a trace
+-- of a trace, and of a stream that is explained
 abbrev pub told_of_trace : TraceError → Option (List ℕ)
 told_of_trace error = Some (trace.told_text error)
 
