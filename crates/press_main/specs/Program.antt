@@ -14,12 +14,12 @@ use Rattle.press_devices.specs.Telling.{output_text, Tells, as_line}
 use Rattle.press_trace.specs.declared.line_of.LineOf.TheVariants.{Run, Step}
 use Rattle.press_words.specs.Defaults.{HoldsBehind, with_prefix}
 use Rattle.press_words.specs.View.{AsksHelp}
-use Rattle.press_words.specs.Words.{Source, Standard, FileNamed, Made, Listed, SummedOf, FilesBy, Answered, AsText, DebuggedOf, TracedOf, RunsOf, PageTo, StreamTo, JobTo, TablesTold, Arguments, arguments}
+use Rattle.press_words.specs.Words.{Source, Standard, FileNamed, Made, Listed, SummedOf, FilesBy, Answered, AsText, ExplainedOf, DebuggedOf, TracedOf, RunsOf, PageTo, StreamTo, JobTo, TablesTold, Arguments, arguments}
 use Rattle.press_files.specs.Change.{change}
 use Rattle.press_files.specs.Edge.{Edge, Inputs, MakesNothing, Promise, ReadsNothing, WritesNothing, fails_of}
 use Rattle.press_files.specs.Ends.{PrintingFiles, PrintingList, Writing}
 use Rattle.press_files.specs.Files.{DoesNothing}
-use Rattle.press_forms.specs.Ends.{Assembling, Debugging, Disassembling, Paging, TracingBy}
+use Rattle.press_forms.specs.Ends.{Assembling, Debugging, Disassembling, Explaining, Paging, TracingBy}
 use Rattle.press_sessions.specs.Ends.{Playing}
 use Rattle.press_main.specs.Tables.{tables_text}
 
@@ -79,6 +79,7 @@ Makes source (FilesBy prefix template) inputs status before after =
     ⊎ (IsASide source template × DoesNothing (sink_number SinkFault) status before after)
 Makes source (Answered asked) inputs status before after = Playing asked inputs status before after
 Makes source AsText inputs status before after = Disassembling status before after
+Makes source (ExplainedOf prefix) inputs status before after = Behind prefix Explaining status before after
 Makes source (DebuggedOf prefix name) inputs status before after = DebuggingFile prefix name inputs status before after
 Makes source (TracedOf prefix) inputs status before after = Behind prefix (TracingBy Step) status before after
 Makes source (RunsOf prefix) inputs status before after = Behind prefix (TracingBy Run) status before after

@@ -36,6 +36,7 @@ use Rattle.press_ticket.specs.Faults as ticket
 use Rattle.press_ticket.specs.declared.fault.TicketError.TheVariants as tickets
 use Rattle.press_trace.specs.Numbers.{method_number}
 use Rattle.press_units.specs.Position.{resolutions}
+use Rattle.press_explain.specs.Titles.{meanings, titles}
 use Rattle.press_words.specs.Words as words
 use Rattle.press_writer.specs.Faults as writer
 use Rattle.press_writer.specs.declared.fault.WriterError.TheVariants as writers
@@ -117,6 +118,13 @@ codings = map (λ one. By one.1) methods ++ (Adaptive ∷ [])
 abbrev pub method_row : RowCoding → Data
 method_row coding = row ((codes "number", counted (method_number coding)) ∷ [])
 
+-- A title: the line of a kind, and what its commands are called. A meaning: the line of a kind with a number, and what that asks for.
+abbrev pub title_row : List ℕ × List ℕ → Data
+title_row one = row ((codes "kind", string one.0) ∷ (codes "title", string one.1) ∷ [])
+
+abbrev pub meaning_row : List ℕ × List ℕ → Data
+meaning_row one = row ((codes "value", string one.0) ∷ (codes "meaning", string one.1) ∷ [])
+
 -- the numbers of all faults that the program tells, in order
 abbrev pub fault_numbers : List (Option ℕ)
 fault_numbers =
@@ -152,7 +160,8 @@ tables =
     (codes "subcommands", map (λ one. subcommand_row (words.usage_of one)) words.subcommands)
     ∷ (codes "page_sizes", map size_row page_sizes)
     ∷ (codes "variables", map (λ one. variable_row (pjl.entry_of one)) pjl.all_variables)
-    ∷ (codes "methods", map method_row codings) ∷ (codes "faults", fault_rows)
+    ∷ (codes "methods", map method_row codings)
+    ∷ (codes "titles", map title_row titles) ∷ (codes "meanings", map meaning_row meanings) ∷ (codes "faults", fault_rows)
     ∷ (codes "messages", map (λ one. message_row one.0) message_types) ∷ []
 
 abbrev pub table_text : List ℕ × List Data → List ℕ

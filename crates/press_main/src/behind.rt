@@ -1,13 +1,13 @@
 //! Bytes that stand before those of a reader, and what is made of both (this profile).
 ghost use Rattle.std.specs.Prelude.{◌≡◌, List, ℕ, [], Some, false};
 ghost use Rattle.press_files.specs.Change.{change};
-ghost use Rattle.press_forms.specs.Ends.{Debugging, Paging, TracingBy, read_of};
+ghost use Rattle.press_forms.specs.Ends.{Debugging, Explaining, Paging, TracingBy, read_of};
 ghost use Rattle.press_main.specs.Program.{Behind};
 ghost use Rattle.press_words.specs.Defaults.{HoldsBehind};
 
 use press_devices::{ReadDevice, Teller, WriteDevice};
 use press_files::{Around, Devices, Loan, Platform};
-use press_forms::{debug_lines, page_file, tell_by};
+use press_forms::{debug_lines, explain_bytes, page_file, tell_by};
 use press_trace::LineOf;
 use std::alloc::Global;
 use std::io;
@@ -76,6 +76,26 @@ impl<R: ReadDevice, D: Fronted> ReadDevice for Stream<'_, '_, R, D> {
         self.bytes = &self.bytes[before..];
         Ok(before + given)
     }
+}
+
+/// Explains the stream of these bytes and those that a reader has behind them. The reader goes back, with the status.
+pub(crate) fn explain_behind<'r, R: ReadDevice, P: Platform, D: Fronted>(
+    alloc: Global,
+    prefix: &[u8],
+    reader: &'r mut R,
+    devices: &mut Devices<P>,
+) -> (&'r mut R, u8)
+    requires name { reader.ghost_name ≡ D.name }
+    requires front { prefix.now ≡ D.front }
+    ensures same { result.0.ghost_name ≡ reader.entry.ghost_name }
+    ensures flushed { result.1 ≡ 0 → P.Out.waiting devices.new.out ≡ false }
+    ensures outputs { devices.new.outputs ≡ devices.old.outputs }
+    ensures explains { ⟦<Devices<P> as Around<R>>⟧.holds (Behind prefix.now Explaining)
+        result.1 reader.old result.0.now devices.old devices.new }
+{
+    let mut stream: Stream<'_, 'r, R, D> = Stream::new(prefix, reader);
+    let status = explain_bytes(alloc, &mut stream, devices);
+    (stream.into_reader(), status)
 }
 
 /// Tells the trace of the stream of these bytes and those that a reader has behind them, with a line for each step, or for each run. The reader

@@ -1,5 +1,5 @@
 //! What the program does. It reads a print stream, and lists its sheets, writes them to files, or writes the stream as assembly
-//! text. It makes a stream of assembly text. It steps through a stream, tells its trace, or makes the page of a step a file. It
+//! text, explained or not. It makes a stream of assembly text. It steps through a stream, tells its trace, or makes the page of a step a file. It
 //! writes the job of a ticket, and has a session with a press.
 #![tactic(auto)]
 

@@ -5,11 +5,11 @@ ghost use Rattle.press_files.specs.Files.{DoesNothing};
 ghost use Rattle.press_files.specs.Edge.{lent_texts};
 ghost use Rattle.press_files.specs.Ends.{Writing};
 ghost use Rattle.press_main.specs.Program.{Behind, DebuggingFile, Makes, Performs, PrintsAFile, RefusesBy, Runs, WritesText, texts};
-ghost use Rattle.press_forms.specs.Ends.{Paging, TracingBy};
+ghost use Rattle.press_forms.specs.Ends.{Explaining, Paging, TracingBy};
 ghost use Rattle.press_words.specs.View.{made_seen, request_seen, status_of};
 ghost use Rattle.press_words.specs.Words.{Source};
 
-use crate::behind::{debug_behind, page_behind, trace_behind};
+use crate::behind::{debug_behind, explain_behind, page_behind, trace_behind};
 use crate::making::{asm_file, job_file};
 use crate::sparing::spare_inputs;
 use crate::tables::tables_text;
@@ -181,6 +181,7 @@ fn make<R: ReadDevice, P: Platform>(
         Output::Files(prefix, template) => print_files(alloc, prefix, template, reader, devices),
         Output::Session(asked) => press_lines(alloc, *asked, reader, devices),
         Output::Text => disasm_bytes(alloc, reader, devices),
+        Output::Explained(prefix) => explain(alloc, prefix, reader, devices),
         Output::Debugged(prefix, name) => debug_file(alloc, prefix, name, reader, devices),
         Output::Traced(prefix) => trace(LineOf::Step, alloc, prefix, reader, devices),
         Output::Runs(prefix) => trace(LineOf::Run, alloc, prefix, reader, devices),
@@ -189,6 +190,22 @@ fn make<R: ReadDevice, P: Platform>(
         Output::Job(name, images) => write_file(alloc, name, images, reader, devices),
         Output::Tables => write_text(tables_text(), devices),
     }
+}
+
+/// Explains the stream of these bytes and those that a reader has behind them.
+fn explain<R: ReadDevice, P: Platform>(
+    alloc: Global,
+    prefix: &[u8],
+    reader: &mut R,
+    devices: &mut Devices<P>,
+) -> u8
+    ensures flushed { result ≡ 0 → P.Out.waiting devices.new.out ≡ false }
+    ensures outputs { devices.new.outputs ≡ devices.old.outputs }
+    ensures explains { ⟦<Devices<P> as Around<R>>⟧.holds (Behind prefix.now Explaining)
+        result reader.old reader.new devices.old devices.new }
+{
+    let (_, status) = explain_behind::<R, P, Brand>(alloc, prefix, reader, devices);
+    status
 }
 
 /// Tells the trace of the stream of these bytes and those that a reader has behind them.

@@ -21,6 +21,9 @@ returns-in-Session-clause-makes g c = λ source unlike. rw c.in-Session.is c.pre
 pub returns-in-Text-clause-makes : goal.returns-in-Text-clause-makes
 returns-in-Text-clause-makes g c = λ source unlike. rw c.in-Text.is c.disasm_bytes.ensures.ended
 
+pub returns-in-Explained-clause-makes : goal.returns-in-Explained-clause-makes
+returns-in-Explained-clause-makes g c = λ source unlike. rw (c.in-Explained.is, ← c.deref-in-Explained.ensures.value) c.explain.ensures.explains
+
 pub returns-in-Debugged-clause-makes : goal.returns-in-Debugged-clause-makes
 returns-in-Debugged-clause-makes g c = λ source unlike. rw (c.in-Debugged.is, ← c.deref-in-Debugged.ensures.value) c.debug_file.ensures.debugs
 
