@@ -4,3 +4,4 @@ mod DeedLemmas
 mod ReadLemmas
 mod StandLemmas
 mod TitleLemmas
+mod worked
