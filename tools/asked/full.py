@@ -4,10 +4,11 @@ ECHO = b"\x1b%-12345X@PJL ECHO x\n"
 
 FAULTS = [
     ("output", [("", b"\x0c"), ("print --list -", b"\x0c"), ("print --list -", ECHO), ("print --list -", b"\x0c" * 500), ("disasm -", b"\x0c"),
-                ("disasm -", b"\x0c" * 5000), ("trace -", b""), ("trace -", b"\x0c"), ("trace -", b"\x0c" * 500),
+                ("disasm -", b"\x0c" * 5000), ("explain -", b""), ("explain -", b"\x0c"), ("explain -", b"\x0c" * 500),
+                ("explain --default COPIES=2 dot", b""), ("trace -", b""), ("trace -", b"\x0c"), ("trace -", b"\x0c" * 500),
                 ("trace --default COPIES=2 dot", b""), ("press", b"pause\n"), ("press", b"message status\n"), ("press", b"pause\n" * 5000),
                 ("press --engines 2", b"what\n"), ("debug dot", b"step\n"), ("debug dot", b"step\n" * 500), ("debug dot", b"what\n"),
-                ("tables", b""), ("tables", b"\x0c"), ("--help", b""), ("help", b""), ("print --help", b""), ("help trace", b""), ("--version", b"")]),
+                ("tables", b""), ("tables", b"\x0c"), ("--help", b""), ("help", b""), ("print --help", b""), ("help explain", b""), ("help trace", b""), ("--version", b"")]),
     ("302", [("print - side-%d", ECHO), ("print - side-%d", ECHO * 500), ("print - side-%d", b"\x0c" + ECHO)]),
     ("301", [("print - /proc/self/fd/%d", b"\x0c")]),
     ("115", [("asm - /dev/stdout", b"uel\n"), ("asm - /dev/stdout", b"uel\n" * 5000), ("asm - /dev/full", b"uel\n"), ("page - 0 /dev/stdout", b""),

@@ -48,6 +48,7 @@ ROWS = [
     Row("a text that is assembled", "asm - made", b"uel\n", b""),
     Row("the trace of the steps before, and not of what stands in no whole command", "trace -", FEED + b"\x1b*c9", TRACED),
     Row("no step of a trace", "trace -", b"\x1b*c9", b""),
+    Row("no command that is explained", "explain -", b"\x1b*c9", b""),
     Row("a page of a step is of a whole stream", "page - 1 made", FEED, b""),
     Row("answers of a press, each at once", "press", b"pause\nwhat\nturn 1", b"ok\nwhat?\n", early=9),
     Row("those of a debugger", "debug empty", b"step\nwhat\n", b"stepped step 1 depth 0 x 0 y 900\nwhat?\n", early=38),

@@ -3,10 +3,10 @@
 Those of `sizes` are for the program alone: the model would take too long for them.
 """
 
-from asked import assembly, debugging, fields, job_language, jobs, lines, marks, pages, places, sessions, sheets, sizes, traces, words
+from asked import assembly, debugging, explained, fields, job_language, jobs, lines, marks, pages, places, sessions, sheets, sizes, traces, words
 
 PARTS = {"words": words, "assembly": assembly, "debugging": debugging, "job_language": job_language, "jobs": jobs, "lines": lines,
-         "pages": pages, "fields": fields, "marks": marks, "places": places, "sessions": sessions, "sheets": sheets, "traces": traces}
+         "pages": pages, "fields": fields, "marks": marks, "places": places, "sessions": sessions, "sheets": sheets, "traces": traces, "explained": explained}
 EVERY = PARTS | {"sizes": sizes}
 
 

@@ -58,6 +58,9 @@ ROWS = [
     ("disasm -", 0, "par *p10X\npar *p20Y\n", b"\x1b*p10x20Y"),
     ("disasm no/such", 1, "fault 304\n", FEED),
     ("disasm /", 1, "fault 304\n", FEED),
+    ("explain no/such", 1, "fault 304\n", FEED),
+    ("explain --default RESOLUTION=600 /", 1, "fault 304\n", FEED),
+    ("explain --default COPIES=0 -", 2, NO_DEFAULT.format("COPIES=0"), FEED),
     ("asm no/such no/such/b", 1, "fault 304\n", FEED),
     ("asm - no/such/b", 1, "fault 401 line 1\n", FEED),
     ("asm - no/such/b", 1, "fault 115\n", b"uel\n"),
@@ -134,5 +137,5 @@ ROWS = [
     ("press --engines \x1b", 2, USAGE, FEED),
 ]
 # What is asked for help, and is no fault; other words of told.txt are refused. Ten words are a row of `sizes`.
-HELP, TEN = ("--help", "help", "help tables"), "print a b c d e f g h i j"
+HELP, TEN = ("--help", "help", "help explain", "help tables"), "print a b c d e f g h i j"
 ROWS += [(words, 0 if words in HELP else 2, None, FEED) for words in told.texts() if words != TEN]

@@ -8,7 +8,7 @@ import json
 from pathlib import Path
 from typing import NamedTuple
 
-from . import asm, debug_lines, defaults, pages, pbm, press, press_lines, runs, tables, ticket, trace_lines
+from . import asm, debug_lines, defaults, explain, pages, pbm, press, press_lines, runs, tables, ticket, trace_lines
 from .engine import Deliver
 from .press_lines import BAD_TEMPLATE, NUMBER, FileFault, read_file, read_image
 
@@ -65,7 +65,7 @@ class Program:
     def answer(self, words):
         """What is answered to these words; `{}` is a file of what is given on standard input."""
         calls = {"print": self.print, "asm": self.asm, "disasm": self.disasm, "debug": self.debug, "write": self.write,
-                 "trace": self.trace, "page": self.page, "tables": self.tables}
+                 "trace": self.trace, "explain": self.explain, "page": self.page, "tables": self.tables}
         if words and words[0] == "press":
             return self.press(words[1:])
         if words and words[0] not in calls:
@@ -163,6 +163,11 @@ class Program:
         front, words = with_defaults([word for word in words if word != RUNS])
         source, = exactly(1, words)
         self.out += b"".join(trace_lines.lines(front + self.read(source), runs))
+
+    def explain(self, words):
+        front, words = with_defaults(words)
+        source, = exactly(1, words)
+        self.out += explain.text(front + self.read(source))
 
     def page(self, words):
         """The open page behind so many steps, a white one where none has a mark; past the end that of the end, which is said."""

@@ -2,13 +2,14 @@
 
 import json
 
-from . import pages, pjl, press, table
+from . import pages, pjl, press, table, titles
 
 # each subcommand: its words, its switches without a value and with one, and its line of help
 SUBCOMMANDS = {
     "print": (["IN", "[OUT]"], ["--list", "--sums"], ["--default"], "Prints a stream to a P4 file (raw PBM) for each side, or lists its sheets"),
     "asm": (["IN", "OUT"], [], [], "Makes a print stream from assembly text, a line for each command"),
     "disasm": (["IN"], [], [], "Writes a stream as assembly text, a line for each command, to standard output"),
+    "explain": (["IN"], [], ["--default"], "Writes a stream as assembly text, and in front of each command what it is and does"),
     "debug": (["IN"], [], ["--default"], "Steps through a stream, as the lines on standard input ask"),
     "trace": (["IN"], ["--runs"], ["--default"], "Tells what a stream does, step by step, in a line of JSON for each"),
     "page": (["IN", "K", "OUT"], [], ["--default"], "Makes a P4 file (raw PBM) of the page that is open behind so many steps of a stream"),
@@ -53,6 +54,8 @@ def compact(value):
 def text():
     """A row in a line."""
     tables = {"subcommands": subcommands(), "page_sizes": page_sizes(), "variables": variables(), "methods": [{"number": number} for number in METHODS],
+              "titles": [{"kind": kind, "title": title} for kind, title in titles.TITLES.items()],
+              "meanings": [{"value": f"{kind} {number}", "meaning": meaning} for (kind, number), meaning in titles.MEANINGS.items()],
               "faults": faults(), "messages": [{"name": name} for name in press.PARAMETERS]}
     lines = ",\n".join(f"{compact(name)}:[\n" + ",\n".join(map(compact, rows)) + "\n]" for name, rows in tables.items())
     return f"{{\n{lines}\n}}\n".encode()

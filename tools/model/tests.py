@@ -11,10 +11,11 @@ if __package__ in (None, ""):
     sys.path[0] = str(Path(__file__).resolve().parent.parent)
 
 from model import (  # noqa: E402
-    asm, commands, debug_lines, job_queue, other_blocks, pages, patterns, pbm, press, rows, runs, ticket, trace_lines, values, writer)
+    asm, commands, debug_lines, explain, job_queue, other_blocks, pages, patterns, pbm, press, rows, runs, ticket, titles, trace_lines, values, writer)
 from model.commands import (  # noqa: E402
     Broken, Control, Param, PjlLine, Text, Uel, closed, same_commands, split)
 from model.press_lines import played  # noqa: E402
+from seen import names  # noqa: E402
 
 UEL = b"\x1b%-12345X"
 FF = b"\x0c"
@@ -610,6 +611,72 @@ def test_deepest_trace():
             "ESC&f2y0X FF ESC&f1X ESC&f1y0X ESC&f2y2X ESC&f1X ESC&f4y4X ESC&f1y2X")
     depths = [item.depth for item in runs.trace(stream(text))]
     assert max(depths) == 4 and depths[-1] == 0
+
+
+# Explained streams
+
+def explained(text):
+    """The remarks and commands of a written stream."""
+    return explain.text(stream(text)).decode().splitlines()
+
+
+def test_explained_row():
+    assert explained("ESC E ESC*t300R ESC*r1A ESC*b1W [FF]") == [
+        "; at 0: Printer Reset; changes nothing", "esc E",
+        "; at 2: Raster Graphics Resolution, in dots per inch: 300; raster.resolution 75 to 300", "par *t300R",
+        "; at 9: Start Raster Graphics: 1 (at the cursor); raster.left none to 0; raster.rows none to 0", "par *r1A",
+        "; at 14: Transfer Raster Data by Row, in bytes: 1; marks within 16 by 1 dots at 72, 187; y 900 to 924; page.marked off to on; raster.rows 0 to 1",
+        "par *b1W FF",
+        "; at 20: the end, where a universal exit is added; the page closes; sheets 0 to 1; y 924 to 900; page.marked on to off; raster.left 0 to none; "
+        "raster.resolution 300 to 75; raster.rows\x201 to none; settings.sheets_of_job 0 to 1"]
+
+
+def test_explained_macro():
+    """Of its pages the one that is open behind it is compared with the one that was open before, which closed: one dot is black on both of them."""
+    assert explained("ESC&f0X FF ESC*c1b1a0P ESC*p15X ESC*c0P ESC&f1X ESC*c1a1b0P ESC&f2X")[16:] == [
+        "; at 31: Horizontal Rectangle Size (PCL Units): 1; drawing.width 0 to 24", "par *c1A",
+        "; at 36: Vertical Rectangle Size (PCL Units): 1; drawing.height 0 to 24", "par *c1B",
+        "; at 38: Fill Rectangular Area: 0 (solid black); marks within 8 by 1 dots at 72, 187; page.marked off to on", "par *c0P",
+        "; at 40: Macro Control: 2 (execute); marks within 8 by 1 dots at 88, 187; sheets 0 to 1; runs 6 recorded commands; x 0 to 360; "
+        "settings.sheets_of_job 0 to 1", "par &f2X",
+        "; at 45: the end, where a universal exit is added; the page closes; sheets 1 to 2; x 360 to 0; drawing.height 24 to 0; drawing.width 24 to 0; "
+        "page.marked on to off; settings.sheets_of_job 1 to 2"]
+
+
+def test_explained_runs():
+    """Text in two runs, one of them while HP-GL/2 is on, with a control character in it."""
+    assert explained("ab ESC%0B c [0D] d ESC%0A [E9] [07] e") == [
+        "; at 0: Text: a; refused: no row", "txt 61", "txt 62",
+        "; at 2: Enter HP-GL/2 Mode: 0; settings.hp_gl off to on", "par %0B",
+        "; at 6: Text: c; refused: HP-GL/2", "txt 63", "ctl 0D", "txt 64",
+        "; at 9: Enter PCL Mode: 0; settings.hp_gl on to off", "par %0A",
+        "; at 13: Text: .; refused: no row", "txt E9",
+        "; at 14: Bell; refused: no row", "ctl 07",
+        "; at 15: Text: e; refused: no row", "txt 65",
+        "; at 16: the end, where a universal exit is added; changes nothing"]
+
+
+def test_explained_reply():
+    line = b"@PJL ECHO " + 60 * b"x" + b"\n"
+    assert explain.text(line).decode().splitlines() == [
+        f"; at 0: PJL line: @PJL ECHO {50 * 'x'}; replies: @PJL ECHO {50 * 'x'}", f"pjl {line.hex().upper()}",
+        "; at 71: the end, where a universal exit is added; changes nothing"]
+
+
+def test_explained_streams_assemble():
+    """Without its remarks the text is what `disasm` writes, and the assembler passes over them."""
+    for spelled in worked_streams():
+        text = explain.text(spelled).decode()
+        plain = "".join(line for line in text.splitlines(keepends=True) if not line.startswith("; "))
+        assert plain == asm.disassemble(spelled) and asm.assemble(text) == asm.assemble(plain)
+
+
+def test_titles_are_the_names():
+    """Each of HP's names has a title, with its unit where it does not tell it itself, and each meaning stands in the other table."""
+    named = {f"esc {letter}": name for letter, name in names.ESCAPES.items()} | {"ctl %02X" % number: name for number, name in names.CONTROLS.items()}
+    with_units = {f"par {letters}": known for letters, known in names.PARAMS.items()}
+    assert {kind: title.partition(", in ")[0] for kind, title in titles.TITLES.items() if " " in kind} == named | {kind: known.name for kind, known in with_units.items()}
+    assert titles.MEANINGS == {(kind, number): words for kind, known in with_units.items() for number, words in known.values.items()}
 
 
 # Tickets

@@ -208,9 +208,14 @@ def steps(stream):
 
 def told_by(teller, stream):
     for at, size, command in placed(stream):
-        for _ in teller.engine.run(command):
-            yield teller.line(at, size)
+        yield from told_of(teller, at, size, command)
+
+
+def told_of(teller, at, size, command):
+    """What each line tells of the steps of a command."""
+    for _ in teller.engine.run(command):
         yield teller.line(at, size)
+    yield teller.line(at, size)
 
 
 def only_counts(state, command, mode):

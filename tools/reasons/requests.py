@@ -73,6 +73,12 @@ def judge_disasm(request, _chosen):
         yield Finding(None, f"{files.describe('IN', request.names[0])} is empty, and so is its text", "Look at what made it")
 
 
+def judge_explain(request, _chosen):
+    name = request.names[0]
+    if not files.read_input(name, "IN"):
+        yield Finding(None, f"{files.describe('IN', name)} is empty, and its text is the remark on the universal exit that the press adds", "Look at what made it")
+
+
 def judge_trace(request, _chosen):
     name = request.names[0]
     if not files.read_input(name, "IN"):
@@ -124,5 +130,5 @@ def judge_press(request, chosen):
     yield from sessions.findings(files.read_input("-", "IN"), request.engines, chosen, request.goes_on)
 
 
-JUDGES = {"print": judge_print, "asm": judge_asm, "disasm": judge_disasm, "debug": judge_debug, "trace": judge_trace, "page": judge_page,
-          "write": judge_write, "press": judge_press, "tables": judge_tables}
+JUDGES = {"print": judge_print, "asm": judge_asm, "disasm": judge_disasm, "explain": judge_explain, "debug": judge_debug, "trace": judge_trace,
+          "page": judge_page, "write": judge_write, "press": judge_press, "tables": judge_tables}

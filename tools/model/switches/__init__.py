@@ -27,8 +27,8 @@ def switch(name, sentence, *texts):
 
 def every_switch():
     """All switches, in the order of the parts."""
-    from . import commands, cursor, jobs, language, macros, marks, numbers, pages, press, program, raster, resets, second_reading, texts, traces
-    parts = [numbers, commands, raster, resets, cursor, pages, marks, macros, language, texts, jobs, press, program, traces, second_reading]
+    from . import commands, cursor, explained, jobs, language, macros, marks, numbers, pages, press, program, raster, resets, second_reading, texts, traces
+    parts = [numbers, commands, raster, resets, cursor, pages, marks, macros, language, texts, jobs, press, program, traces, explained, second_reading]
     found = [each for part in parts for each in part.SWITCHES]
     names = [each.name for each in found]
     twice = sorted({name for name in names if names.count(name) > 1})

@@ -258,7 +258,7 @@ SWITCHES = REFUSALS + IN_OVERLAYS + [switch(f"trace-{name}", f"The view tells th
     switch("trace-exit-has-its-bytes", "The universal exit that is added has 0 bytes.", T, "    yield len(stream), 0, Uel(), EXIT\n", "    yield len(stream), 9, Uel(), EXIT\n"),
     switch("trace-rest-of-no-bytes", "What stands for a rest at the end has the bytes of the rest.", T, "        size = (len(stream) - place) // len(rest)\n", "        size = 0\n"),
     switch("trace-rest-at-its-begin", "Each byte of a rest stands at its own place.", T, "        yield place + number * size, size, command, EXIT\n", "        yield place, size, command, EXIT\n"),
-    switch("trace-body-without-its-place", "A step inside a body has the place of the command that started it.", T, "            yield teller.line(at, size)\n        yield", "            yield teller.line(at, size) | ({\"bytes\": 0} if teller.engine.depth else {})\n        yield"),
+    switch("trace-body-without-its-place", "A step inside a body has the place of the command that started it.", T, "        yield teller.line(at, size)\n    yield", "        yield teller.line(at, size) | ({\"bytes\": 0} if teller.engine.depth else {})\n    yield"),
     switch("trace-depth-from-1", "The depth is how many bodies run.", T, '"depth": engine.depth', '"depth": engine.depth + 1'),
     switch("trace-depth-0", "The depth is how many bodies run.", T, '"depth": engine.depth', '"depth": 0'),
     switch("trace-last-of-recorded", "A command that was recorded is told by its kind.", T, '"last": engine.kind', '"last": engine.last'),
